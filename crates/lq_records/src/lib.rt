@@ -1,0 +1,26 @@
+//! The data that the layers above share: texts, the objects of a base, the tables with their
+//! columns, and the values of cells.
+#![tactic(auto)]
+
+mod base;
+mod columns;
+mod ids;
+mod items;
+mod refusal;
+mod schema;
+mod text;
+mod value;
+
+pub use base::{Base, Host, Rules};
+pub use columns::{Col, HostColumn, OwnColumn, StatusColumn, Table};
+pub use ids::{
+    CommandId, ContactGroupId, ContactId, HostGroupId, HostId, PeriodId, ServiceGroupId, ServiceId,
+};
+pub use items::Items;
+pub use refusal::Refusal;
+pub use schema::{column, table};
+pub use text::Text;
+pub use value::Val;
+
+/// Want of memory.
+pub type Memory = std::alloc::AllocError;
