@@ -40,7 +40,7 @@ text_before_feed front =
     let before : take (length (front ++ 10 ∷ []) - 1) (front ++ 10 ∷ []) ≡ front = grind (arith, common_steps) in
     rw (eq-eqb _ _ last) (ap strip_carriage_return before)
 
-text_to_feed : (bytes : List ℕ) (feed : ℕ) → feed < length bytes → slice_index bytes feed ≡ 10 → line_text (take (feed + 1) bytes) ≡ strip_carriage_return (take feed bytes)
+pub text_to_feed : (bytes : List ℕ) (feed : ℕ) → feed < length bytes → slice_index bytes feed ≡ 10 → line_text (take (feed + 1) bytes) ≡ strip_carriage_return (take feed bytes)
 text_to_feed bytes feed within here =
     let last : take (feed + 1) bytes ≡ take feed bytes ++ 10 ∷ [] = grind (arith, common_steps, here) in
     ap line_text last ∙ text_before_feed (take feed bytes)

@@ -1,0 +1,7 @@
+pub mod Messages
+pub mod Extent
+pub mod Cutting
+pub mod Words
+pub mod Message
+pub mod Request
+pub mod Reading

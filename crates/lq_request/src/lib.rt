@@ -1,0 +1,12 @@
+//! Messages: cutting them out of a connection's bytes, and reading what they ask.
+#![tactic(auto)]
+
+mod cut;
+mod extent;
+mod message;
+mod request;
+mod words;
+
+pub use cut::{Cut, Cutting, MESSAGE_LIMIT};
+pub use message::MOST_HEADERS;
+pub use request::{ReadErr, Request, read_request};
