@@ -1,0 +1,4 @@
+pub mod Faults
+pub mod Loading
+pub mod Forms
+pub mod Sinks
