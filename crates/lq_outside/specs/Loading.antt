@@ -26,10 +26,10 @@ Loads file most (Err Failed) = IfSome file (λ there. IsSome there)
 Loads file most (Err TooLarge) = IfSome file (λ there. IsSomeAnd there (λ bytes. most < length bytes))
 Loads file most (Err Memory) = Unit {0}
 
--- the count after this answer: one more where it is a fault
-abbrev pub faults_after : {T : Type 0} → Result T LoadErr → ℕ → ℕ
-faults_after (Ok x) before = before
-faults_after (Err Missing) before = next_count before
-faults_after (Err Failed) before = next_count before
-faults_after (Err TooLarge) before = before
-faults_after (Err Memory) before = before
+-- the count after a load: one more where the answer is a fault
+abbrev pub load_faults_after : {T : Type 0} → Result T LoadErr → ℕ → ℕ
+load_faults_after (Ok x) before = before
+load_faults_after (Err Missing) before = next_count before
+load_faults_after (Err Failed) before = next_count before
+load_faults_after (Err TooLarge) before = before
+load_faults_after (Err Memory) before = before

@@ -1,7 +1,7 @@
-ghost use Rattle.std.specs.Prelude.{◌≡◌, ◌↔◌, ◌<◌, ◌≤◌, ℕ, List, Some, Err, length, option_copied, IfOk, IfErr, IsNone, IsSome, IsSomeAnd, Contains};
+ghost use Rattle.std.specs.Prelude.{◌≡◌, ◌↔◌, ◌<◌, ◌≤◌, Some, Err, length, option_copied, IfOk, IfErr, IsNone, IsSome, IsSomeAnd, Contains};
 ghost use Rattle.lq_outside.specs.Faults.{next_count};
 ghost use Rattle.lq_outside.specs.Forms.{held_in, pairs_of};
-ghost use Rattle.lq_outside.specs.Loading.{HasLoadCause, IsFault, Loads, faults_after};
+ghost use Rattle.lq_outside.specs.Loading.{HasLoadCause, IsFault, Loads, load_faults_after};
 
 use crate::failed::Memory;
 use crate::files::{Files, LoadErr};
@@ -84,14 +84,13 @@ impl Files for MemFiles {
     fn load(&mut self, alloc: Global, path: &str, most: u64) -> Result<Vec<u8>, LoadErr>
         ensures loads { Loads (Some (held_in self.old.pairs path.now)) most result }
         ensures cause { HasLoadCause self.old.faults self.new.faults result }
-        ensures stays { (p : List ℕ) → Some (held_in self.new.pairs p) ≡ Some (held_in self.old.pairs p) }
 
         // `Missing` comes before the number of the call is looked at, and that before the length.
         ensures missing { (result ≡ Err LoadErr.Missing) ↔ IsNone (held_in self.old.pairs path.now) }
         ensures failed { (result ≡ Err LoadErr.Failed) ↔ (IsSome (held_in self.old.pairs path.now) × Contains self.old.fail_at self.old.calls) }
         ensures large { (result ≡ Err LoadErr.TooLarge) ↔ (¬ Contains self.old.fail_at self.old.calls × IsSomeAnd (held_in self.old.pairs path.now) (λ bytes. most < length bytes)) }
 
-        ensures faults { self.new.faults ≡ faults_after result self.old.faults }
+        ensures faults { self.new.faults ≡ load_faults_after result self.old.faults }
         ensures calls { self.new.calls ≡ next_count self.old.calls }
         ensures kept { (self.new.pairs ≡ self.old.pairs) × (self.new.fail_at ≡ self.old.fail_at) }
     {

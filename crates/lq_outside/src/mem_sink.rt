@@ -1,7 +1,7 @@
-ghost use Rattle.std.specs.Prelude.{◌≡◌, ◌<◌, ◌⊎◌, [], Some, None, length, IfOk, OnErr, IsErr, Contains, is_err, if◌then◌else◌};
+ghost use Rattle.std.specs.Prelude.{◌≡◌, ◌<◌, ◌⊎◌, [], Some, None, length, IfOk, OnErr, IsErr, Contains};
 ghost use Rattle.std.specs.Io.{WritesAtMost};
 ghost use Rattle.std.specs.Io.KnownBytes.{WriteAppends};
-ghost use Rattle.lq_outside.specs.Faults.{HasCause, next_count};
+ghost use Rattle.lq_outside.specs.Faults.{HasCause, faults_after, next_count};
 
 use crate::failed::{Failed, Memory};
 use crate::plan::Plan;
@@ -70,7 +70,7 @@ impl Sink for MemSink {
         // It fails at each number given, and else only where it has no room; its count rises only then.
         ensures fails { Contains self.old.fail_at self.old.calls → IsErr result }
         ensures why { OnErr result (Contains self.old.fail_at self.old.calls ⊎ (self.old.room < length piece.now)) }
-        ensures faults { self.new.faults ≡ (if is_err result then next_count self.old.faults else self.old.faults) }
+        ensures faults { self.new.faults ≡ faults_after result self.old.faults }
         ensures calls { self.new.calls ≡ next_count self.old.calls }
         ensures planned { self.new.fail_at ≡ self.old.fail_at }
         ensures whole { IfOk result (λ n. n ≡ length piece.now) }

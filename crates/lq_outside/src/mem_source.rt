@@ -1,7 +1,7 @@
-ghost use Rattle.std.specs.Prelude.{◌≡◌, ◌↔◌, Some, None, length, min, IfOk, OnOk, IsErr, Contains, is_err, if◌then◌else◌};
+ghost use Rattle.std.specs.Prelude.{◌≡◌, ◌↔◌, Some, None, length, min, IfOk, IsErr, Contains};
 ghost use Rattle.std.specs.Io.{ReadsAtMost};
 ghost use Rattle.std.specs.Io.KnownBytes.{ReadConsumes};
-ghost use Rattle.lq_outside.specs.Faults.{HasCause, next_count};
+ghost use Rattle.lq_outside.specs.Faults.{HasCause, faults_after, next_count};
 
 use crate::failed::{Failed, Memory};
 use crate::plan::Plan;
@@ -65,7 +65,7 @@ impl Source for MemSource {
 
         // It fails exactly at the numbers given, and its count rises only there.
         ensures fails { IsErr result ↔ Contains self.old.fail_at self.old.calls }
-        ensures faults { self.new.faults ≡ (if is_err result then next_count self.old.faults else self.old.faults) }
+        ensures faults { self.new.faults ≡ faults_after result self.old.faults }
         ensures calls { self.new.calls ≡ next_count self.old.calls }
         ensures planned { self.new.fail_at ≡ self.old.fail_at }
         ensures most { IfOk result (λ n. n ≡ min (length self.old.left) (length buf.old)) }
