@@ -18,6 +18,8 @@ mod std_files;
 mod std_sink;
 mod std_source;
 mod steady;
+#[cfg(test)]
+mod tests;
 mod unread;
 
 pub use failed::{Failed, Memory};
