@@ -1,5 +1,5 @@
 -- What loading a file says of the file and of the count of faults.
-use Rattle.std.specs.Prelude.{◌≡◌, ℕ, ◌<◌, ◌≤◌, List, length, Result, Option, None, Some, Ok, Err, IfErr, IfSome, IsSome, IsSomeAnd}
+use Rattle.std.specs.Prelude.{◌≡◌, ℕ, ◌<◌, ◌≤◌, List, length, Result, Option, None, Some, Ok, Err, IfErr, IfSome, codes, IsSome, IsSomeAnd}
 use Rattle.std.specs.Global.{Vec}
 use Rattle.lq_outside.specs.declared.files.LoadErr.{LoadErr}
 use Rattle.lq_outside.specs.declared.files.LoadErr.TheVariants.{Missing, Failed, TooLarge, Memory}
@@ -11,6 +11,13 @@ IsFault Missing = Unit {0}
 IsFault Failed = Unit {0}
 IsFault TooLarge = ⊥
 IsFault Memory = ⊥
+
+-- how an answer that isn't a file is printed
+abbrev pub text_of : LoadErr → List ℕ
+text_of Missing = codes "missing"
+text_of Failed = codes "cannot be read"
+text_of TooLarge = codes "too large"
+text_of Memory = codes "out of memory"
 
 -- the count never falls, and it rose where the answer is a fault
 pub record HasLoadCause {T : Type 0} (before now : ℕ) (result : Result T LoadErr) : Type 0 where

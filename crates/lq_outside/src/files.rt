@@ -19,6 +19,11 @@ pub enum LoadErr {
 }
 
 impl fmt::Display for LoadErr {
+    ghost use Rattle.std.specs.Prelude.{Some};
+    ghost use Rattle.lq_outside.specs.Loading.{text_of};
+
+    ghost output = { λ e. Some (text_of e) };
+
     fn fmt<W: fmt::Write>(&self, f: &mut fmt::Formatter<W>) -> fmt::Result {
         f.write_str(match self {
             LoadErr::Missing => "missing",

@@ -9,8 +9,8 @@ use crate::plan::Plan;
 use std::alloc::Global;
 use std::marker::Model;
 
-/// Files in memory. A load of a path that is not held is a fault, and a load of one
-/// that is held fails where its number is given, counted from 0.
+/// Files in memory. A load of a path that is not held is a fault. A load of one that is held fails
+/// where its number is given, counted from 0. No other load is a fault.
 #[derive(Debug, Drop)]
 pub struct MemFiles {
     pairs: Vec<(String, Vec<u8>)>,
@@ -22,7 +22,12 @@ impl Model for MemFiles {
 
     ghost Value = { FileSet };
 
-    ghost view = { λ f. record { pairs = pairs_of f.pairs.items; fail_at = f.plan.fail_at; calls = f.plan.calls; faults = f.plan.faults } };
+    ghost view = { λ f. record {
+      pairs = pairs_of f.pairs.items;
+      fail_at = f.plan.fail_at;
+      calls = f.plan.calls;
+      faults = f.plan.faults;
+    } };
 }
 
 // The bytes beside the first pair with this path.
@@ -45,7 +50,12 @@ impl MemFiles {
         pairs: Vec<(String, Vec<u8>)>,
         fail_at: Vec<u64>,
     ) -> Result<Self, Memory>
-        ensures { IfOk result (λ f. f ≡ record { pairs = pairs_of pairs.items; fail_at = fail_at.items; calls = 0; faults = 0 }) }
+        ensures { IfOk result (λ f. f ≡ record {
+          pairs = pairs_of pairs.items;
+          fail_at = fail_at.items;
+          calls = 0;
+          faults = 0;
+        }) }
     {
         Ok(MemFiles {
             pairs,
@@ -87,12 +97,16 @@ impl Files for MemFiles {
 
         // `Missing` comes before the number of the call is looked at, and that before the length.
         ensures missing { (result ≡ Err LoadErr.Missing) ↔ IsNone (held_in self.old.pairs path.now) }
-        ensures failed { (result ≡ Err LoadErr.Failed) ↔ (IsSome (held_in self.old.pairs path.now) × Contains self.old.fail_at self.old.calls) }
-        ensures large { (result ≡ Err LoadErr.TooLarge) ↔ (¬ Contains self.old.fail_at self.old.calls × IsSomeAnd (held_in self.old.pairs path.now) (λ bytes. most < length bytes)) }
+        ensures failed { (result ≡ Err LoadErr.Failed) ↔
+            (IsSome (held_in self.old.pairs path.now) × Contains self.old.fail_at self.old.calls) }
+        ensures large { (result ≡ Err LoadErr.TooLarge) ↔
+            (IsSomeAnd (held_in self.old.pairs path.now) (λ bytes. most < length bytes)
+            × ¬ Contains self.old.fail_at self.old.calls) }
 
         ensures faults { self.new.faults ≡ load_faults_after result self.old.faults }
         ensures calls { self.new.calls ≡ next_count self.old.calls }
-        ensures kept { (self.new.pairs ≡ self.old.pairs) × (self.new.fail_at ≡ self.old.fail_at) }
+        ensures pairs { self.new.pairs ≡ self.old.pairs }
+        ensures plan { self.new.fail_at ≡ self.old.fail_at }
     {
         let is_planned = self.plan.begin_call();
         let Some(bytes) = find_file(&self.pairs, path) else {

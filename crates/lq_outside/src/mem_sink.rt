@@ -23,14 +23,20 @@ impl Model for MemSink {
 
     ghost Value = { Output };
 
-    ghost view = { λ s. record { held = s.bytes.items; room = vec_capacity s.bytes - vec_len s.bytes; fail_at = s.plan.fail_at; calls = s.plan.calls; faults = s.plan.faults } };
+    ghost view = { λ s. record {
+      held = s.bytes.items;
+      room = vec_capacity s.bytes - vec_len s.bytes;
+      fail_at = s.plan.fail_at;
+      calls = s.plan.calls;
+      faults = s.plan.faults;
+    } };
 }
 
 impl MemSink {
     /// A sink that holds nothing. The writes with the numbers `fail_at` are to fail.
     pub fn new(alloc: Global, fail_at: Vec<u64>) -> Result<Self, Memory>
         ensures held { IfOk result (λ s. s.held ≡ []) }
-        ensures planned { IfOk result (λ s. s.fail_at ≡ fail_at.items) }
+        ensures plan { IfOk result (λ s. s.fail_at ≡ fail_at.items) }
         ensures counts { IfOk result (λ s. (s.calls ≡ 0) × (s.faults ≡ 0)) }
     {
         Ok(MemSink {
@@ -67,12 +73,13 @@ impl Sink for MemSink {
         ensures some { IfOk result (λ n. 0 < length piece.now → 0 < n) }
         ensures cause { HasCause self.old.faults self.new.faults result }
 
-        // It fails at each number given, and else only where it has no room; its count rises only then.
+        // It fails at each number given, and else only where it has no room. Its count rises only there.
         ensures fails { Contains self.old.fail_at self.old.calls → IsErr result }
-        ensures why { OnErr result (Contains self.old.fail_at self.old.calls ⊎ (self.old.room < length piece.now)) }
+        ensures why { OnErr result
+            (Contains self.old.fail_at self.old.calls ⊎ (self.old.room < length piece.now)) }
         ensures faults { self.new.faults ≡ faults_after result self.old.faults }
         ensures calls { self.new.calls ≡ next_count self.old.calls }
-        ensures planned { self.new.fail_at ≡ self.old.fail_at }
+        ensures plan { self.new.fail_at ≡ self.old.fail_at }
         ensures whole { IfOk result (λ n. n ≡ length piece.now) }
     {
         if self.plan.begin_call() || self.bytes.extend_from_slice(piece).is_err() {

@@ -22,13 +22,23 @@ impl Model for MemSource {
 
     ghost Value = { Input };
 
-    ghost view = { λ s. record { left = s.unread; fail_at = s.plan.fail_at; calls = s.plan.calls; faults = s.plan.faults } };
+    ghost view = { λ s. record {
+      left = s.unread;
+      fail_at = s.plan.fail_at;
+      calls = s.plan.calls;
+      faults = s.plan.faults;
+    } };
 }
 
 impl MemSource {
     /// A source that has all of `bytes` left. The reads with the numbers `fail_at` are to fail.
     pub fn new(_alloc: Global, bytes: Vec<u8>, fail_at: Vec<u64>) -> Result<Self, Memory>
-        ensures { IfOk result (λ s. s ≡ record { left = bytes.items; fail_at = fail_at.items; calls = 0; faults = 0 }) }
+        ensures { IfOk result (λ s. s ≡ record {
+          left = bytes.items;
+          fail_at = fail_at.items;
+          calls = 0;
+          faults = 0;
+        }) }
     {
         Ok(MemSource {
             unread: Unread::new(bytes),
@@ -67,8 +77,8 @@ impl Source for MemSource {
         ensures fails { IsErr result ↔ Contains self.old.fail_at self.old.calls }
         ensures faults { self.new.faults ≡ faults_after result self.old.faults }
         ensures calls { self.new.calls ≡ next_count self.old.calls }
-        ensures planned { self.new.fail_at ≡ self.old.fail_at }
-        ensures most { IfOk result (λ n. n ≡ min (length self.old.left) (length buf.old)) }
+        ensures plan { self.new.fail_at ≡ self.old.fail_at }
+        ensures count { IfOk result (λ n. n ≡ min (length self.old.left) (length buf.old)) }
     {
         if self.plan.begin_call() {
             self.plan.count_fault();

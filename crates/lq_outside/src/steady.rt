@@ -57,7 +57,7 @@ impl Source for SteadySource {
     fn read(&mut self, buf: &mut [u8]) -> Result<usize, Failed>
         ensures bound { ReadsAtMost result buf.new }
         ensures bytes { ReadConsumes (Some self.old) (Some self.new) result buf.new }
-        ensures most { result ≡ Ok (min (length self.old) (length buf.old)) }
+        ensures count { result ≡ Ok (min (length self.old) (length buf.old)) }
     {
         Ok(self.unread.give(buf))
     }
