@@ -76,6 +76,7 @@ window_message bytes = message_of (take MESSAGE_LIMIT bytes)
 
 -- a message that has ended
 first_ended : (ended : Bool) (bytes : List ℕ) → (window_message bytes).ended ≡ true → (window_message bytes).size ≤ length bytes → IsFirst (Query (window_message bytes).text) ended bytes
+unfolding first_piece needed
 first_ended ended bytes is small =
     let same : (more : List ℕ) → window_message (bytes ++ more) ≡ window_message bytes = λ more.
     ap message_of (front_more MESSAGE_LIMIT bytes more) ∙ message_stable (take MESSAGE_LIMIT bytes) (take (MESSAGE_LIMIT - length bytes) more) is in
@@ -87,6 +88,7 @@ first_ended ended bytes is small =
 
 -- a message that is too long
 first_long : (ended : Bool) (bytes : List ℕ) → (window_message bytes).ended ≡ false → MESSAGE_LIMIT < length bytes → IsFirst (TooLong (take MESSAGE_LIMIT bytes)) ended bytes
+unfolding first_piece needed
 first_long ended bytes is long =
     let front : (more : List ℕ) → take MESSAGE_LIMIT (bytes ++ more) ≡ take MESSAGE_LIMIT bytes = λ more. take-append-le MESSAGE_LIMIT bytes more (omega arith) in
     let longer : (more : List ℕ) → MESSAGE_LIMIT < length (bytes ++ more) = λ more. omega (arith, length-append bytes more) in
@@ -98,6 +100,7 @@ first_long ended bytes is long =
 
 -- the last piece of an input
 first_last : (bytes : List ℕ) (piece : Piece) → (window_message bytes).ended ≡ false → length bytes ≤ MESSAGE_LIMIT → first_piece true bytes ≡ piece → IsFirst piece true bytes
+unfolding first_piece needed
 first_last bytes piece is short shown =
     let all : (more : List ℕ) → (IsTrue true → more ≡ []) → bytes ++ more ≡ bytes = λ more closed. ap (λ rest. bytes ++ rest) (closed refl) ∙ append-nil bytes in
     record {
@@ -116,6 +119,7 @@ module _ (ended : Bool) (bytes : List ℕ) (extent : Extent) (is : IsExtent (tak
 
   -- a query, shown by its first piece
   shows_query : first_piece ended bytes ≡ Query (window_message bytes).text → IsFirst (Query (window_message bytes).text) ended bytes → Shows ended bytes (found.Query extent)
+  unfolding first_piece
   shows_query piece first = record {
     next = record {
       is = ap Query text_is ∙ sym piece;
@@ -127,6 +131,7 @@ module _ (ended : Bool) (bytes : List ℕ) (extent : Extent) (is : IsExtent (tak
   }
 
   pub shows_ended : extent.end < extent.next → Shows ended bytes (found.Query extent)
+  unfolding first_piece
   shows_ended low =
       let has : (window_message bytes).ended ≡ true = is.ended ∙ grind arith in
       shows_query (piece_ended ended bytes (window_message bytes) has) (first_ended ended bytes has (omega (arith, is.size, is.within, window_length)))
@@ -135,6 +140,7 @@ module _ (ended : Bool) (bytes : List ℕ) (extent : Extent) (is : IsExtent (tak
   not_ended high = is.ended ∙ grind arith
 
   pub shows_long : extent.next ≤ extent.end → MESSAGE_LIMIT < length bytes → Shows ended bytes found.TooLong
+  unfolding first_piece
   shows_long high long = record {
     next = record {
       is = sym (piece_long ended bytes (window_message bytes) (not_ended high) long);
@@ -146,6 +152,7 @@ module _ (ended : Bool) (bytes : List ℕ) (extent : Extent) (is : IsExtent (tak
   }
 
   pub shows_more : extent.next ≤ extent.end → length bytes ≤ MESSAGE_LIMIT → ended ≡ false → Shows ended bytes found.More
+  unfolding first_piece
   shows_more high short open' = record {
     next = record {
       is = sym (piece_more ended bytes (window_message bytes) (not_ended high) short open');
@@ -160,16 +167,19 @@ module _ (ended : Bool) (bytes : List ℕ) (extent : Extent) (is : IsExtent (tak
   text_length = ap length (sym text_is) ∙ omega (arith, length-take (extent.end - extent.start) (drop extent.start bytes), length-drop extent.start bytes, is.order, is.behind, is.within, window_length)
 
   last_of : (piece : Piece) → extent.next ≤ extent.end → length bytes ≤ MESSAGE_LIMIT → ended ≡ true → first_piece ended bytes ≡ piece → IsFirst piece ended bytes
+  unfolding first_piece
   last_of piece high short closed shown =
       subst (λ e. IsFirst piece e bytes) (sym closed) (first_last bytes piece (not_ended high) short (ap (λ e. first_piece e bytes) (sym closed) ∙ shown))
 
   pub shows_last : extent.next ≤ extent.end → length bytes ≤ MESSAGE_LIMIT → ended ≡ true → (extent.start ≡ extent.end → ⊥) → Shows ended bytes (found.Query extent)
+  unfolding first_piece
   shows_last high short closed some =
       let piece : first_piece ended bytes ≡ Query (window_message bytes).text =
       piece_last ended bytes (window_message bytes) (not_ended high) short closed (omega (arith, text_length, is.order, some)) in
       shows_query piece (last_of _ high short closed piece)
 
   pub shows_empty : extent.next ≤ extent.end → length bytes ≤ MESSAGE_LIMIT → ended ≡ true → extent.start ≡ extent.end → Shows ended bytes (found.Empty (length bytes))
+  unfolding first_piece
   shows_empty high short closed none =
       let piece : first_piece ended bytes ≡ Empty = piece_empty ended bytes (window_message bytes) (not_ended high) short closed (omega (arith, text_length, none)) in
       record {

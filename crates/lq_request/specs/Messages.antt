@@ -55,7 +55,7 @@ piece_of ended bytes message =
     else if length message.text == 0 then Empty
     else Query message.text
 
-abbrev pub first_piece : Bool → List ℕ → Piece
+unfoldable pub first_piece : Bool → List ℕ → Piece
 first_piece ended bytes = piece_of ended bytes (message_of (take MESSAGE_LIMIT bytes))
 
 -- how many bytes of a whole input show its first piece
@@ -65,7 +65,7 @@ needed_for input message =
     else if nat_lt MESSAGE_LIMIT (length input) then MESSAGE_LIMIT + 1
     else length input
 
-abbrev pub needed : List ℕ → ℕ
+unfoldable pub needed : List ℕ → ℕ
 needed input = needed_for input (message_of (take MESSAGE_LIMIT input))
 
 -- The piece is the first one of the input, however it goes on; after `ended` it doesn't go on.

@@ -82,5 +82,5 @@ asked_words None = Err not_built
 asked_words (Some words) = asked_table words (table_of words.table)
 
 -- what a message asks, or its refusal
-abbrev pub asked : List ℕ → Result Request Refusal
+unfoldable pub asked : List ℕ → Result Request Refusal
 asked message = asked_words (words_of_message message)

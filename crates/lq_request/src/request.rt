@@ -41,6 +41,7 @@ impl From<AllocError> for ReadErr {
 /// word, and 1 to 256 lines `Columns:` follow, each with one word at least; then with 404
 /// `unknown table: <word>`; then, at its first word that names no column of the table, with 450
 /// `unknown column: <word>`.
+#[tactic(auto, unfolding(crate::specs::Request::asked))]
 pub fn read_request(alloc: Global, b: &[u8], _base: &Base) -> Result<Request, ReadErr>
     ensures { Reads result (asked b.now) }
 {

@@ -1,0 +1,66 @@
+-- The reply to a query on a base.
+use Rattle.std.specs.Prelude.{ℕ, pos, nat_lt, List, [], ◌∷◌, ◌++◌, length, map, if◌then◌else◌}
+use Rattle.std.specs.List.{flat_map}
+use Rattle.std.specs.Fmt.{signed_decimal}
+use Rattle.lq_records.specs.declared.base.Base.{Base}
+use Rattle.lq_records.specs.declared.base.Host.{Host}
+use Rattle.lq_records.specs.declared.columns.Col.{Col}
+use Rattle.lq_records.specs.declared.columns.HostColumn.{HostColumn}
+use Rattle.lq_records.specs.declared.columns.HostColumn.TheVariants.{Name, Alias, Address, Status}
+use Rattle.lq_records.specs.declared.columns.OwnColumn.{OwnColumn}
+use Rattle.lq_records.specs.declared.columns.OwnColumn.TheVariants as own
+use Rattle.lq_records.specs.declared.columns.StatusColumn.{StatusColumn}
+use Rattle.lq_records.specs.declared.columns.StatusColumn.TheVariants.{State}
+use Rattle.lq_records.specs.Value.{Value, Number, Words}
+use Rattle.lq_request.specs.declared.request.Request.{Request}
+use Rattle.lqd.specs.declared.answer.Reply.{Reply}
+use Rattle.lqd.specs.declared.answer.TheConstants.{REPLY_LIMIT}
+
+-- ---- cells
+
+-- nothing has been checked yet, and a pending object's state is 0
+abbrev pub status_cell : StatusColumn → Value
+status_cell State = Number (pos 0)
+
+abbrev pub host_cell : HostColumn → Host → Value
+host_cell Name host = Words host.host_name
+host_cell Alias host = Words host.alias
+host_cell Address host = Words host.address
+host_cell (Status column) host = status_cell column
+
+abbrev pub own_cell : OwnColumn → Host → Value
+own_cell (own.Host column) host = host_cell column host
+
+-- ---- lines
+
+abbrev pub cell_text : Value → List ℕ
+cell_text (Number number) = signed_decimal number
+cell_text (Words text) = text
+
+abbrev pub line_of : List Col → Host → List (List ℕ)
+line_of columns host = map (λ column. cell_text (own_cell column.own host)) columns
+
+-- a line for each host, in the order of the base
+abbrev pub lines_of : Request → Base → List (List (List ℕ))
+lines_of request base = map (line_of request.columns) base.hosts
+
+-- ---- text
+
+-- the cells with `;` between them
+abbrev pub joined : List (List ℕ) → List ℕ
+joined [] = []
+joined (cell ∷ cells) = cell ++ flat_map (λ later. 59 ∷ later) cells
+
+-- csv: a line feed behind each line, and nothing is quoted
+abbrev pub csv_line : List (List ℕ) → List ℕ
+csv_line cells = joined cells ++ 10 ∷ []
+
+abbrev pub csv : List (List (List ℕ)) → List ℕ
+csv lines = flat_map csv_line lines
+
+-- a body that is too large is replaced by the refusal 413
+abbrev pub limited : List ℕ → Reply
+limited body = if nat_lt REPLY_LIMIT (length body) then record { code = 413; bytes = [] } else record { code = 200; bytes = body }
+
+abbrev pub answer_of : Request → Base → Reply
+answer_of request base = limited (csv (lines_of request base))

@@ -1,0 +1,82 @@
+-- The ends of the program, their statuses and their texts.
+use Rattle.std.specs.Prelude.{ℕ, ◌≢◌, ◌≤◌, nat_lt, Option, Some, None, Result, Ok, Err, List, [], ◌∷◌, ◌++◌, length, codes, if◌then◌else◌}
+use Rattle.std.specs.Fmt.{decimal}
+use Rattle.lq_records.specs.declared.base.Base.{Base}
+use Rattle.lq_records.specs.declared.base.Rules.{Rules}
+use Rattle.lqd.specs.Objects.{Fault, base_of}
+use Rattle.lqd.specs.ObjectLines.{what_text}
+use Rattle.lqd.specs.declared.fault.TheConstants.{OBJECTS_LIMIT}
+use Rattle.lqd.specs.declared.fault.ObjectsFault.{ObjectsFault}
+use Rattle.lqd.specs.declared.fault.ObjectsFault.TheVariants.{At, TooLarge}
+use Rattle.lqd.specs.declared.fault.Fault.{Fault as End}
+use Rattle.lqd.specs.declared.fault.Fault.TheVariants as end
+
+-- ---- what is wrong with an object file
+
+abbrev pub fault_of_base : Result Base Fault → Option ObjectsFault
+fault_of_base (Ok base) = None
+fault_of_base (Err fault) = Some (At fault.line fault.what)
+
+-- the fault of an object file, where it has one
+unfoldable pub objects_fault : List ℕ → Rules → Option ObjectsFault
+objects_fault bytes rules = if nat_lt OBJECTS_LIMIT (length bytes) then Some TooLarge else fault_of_base (base_of bytes rules)
+
+-- ---- statuses
+
+-- 0, 1, 2, 4, 5, 6 or 7
+abbrev pub IsStatus : ℕ → Type 0
+IsStatus status = (status ≤ 7) × (status ≢ 3)
+
+abbrev pub status_of : End → ℕ
+status_of end.Usage = 1
+status_of (end.Objects fault) = 2
+status_of (end.FileMissing path) = 4
+status_of (end.FileUnreadable path) = 4
+status_of end.Read = 5
+status_of end.Write = 6
+status_of end.Memory = 7
+
+abbrev pub status_of_end : Result (Unit {0}) End → ℕ
+status_of_end (Ok _) = 0
+status_of_end (Err fault) = status_of fault
+
+-- ---- texts
+
+abbrev pub line : List ℕ → List ℕ
+line text = text ++ 10 ∷ []
+
+abbrev pub usage_text : List ℕ
+usage_text = line (codes "usage: lqd ask|replay|serve|load")
+
+abbrev pub objects_text : ObjectsFault → List ℕ
+objects_text TooLarge = line (codes "objects: too large")
+objects_text (At number what) = line (codes "objects: line " ++ (decimal number ++ (codes ": " ++ what_text what)))
+
+abbrev pub missing_text : List ℕ → List ℕ
+missing_text path = line (codes "file: " ++ (path ++ codes ": missing"))
+
+abbrev pub unreadable_text : List ℕ → List ℕ
+unreadable_text path = line (codes "file: " ++ (path ++ codes ": cannot be read"))
+
+abbrev pub read_text : List ℕ
+read_text = line (codes "read fault")
+
+abbrev pub write_text : List ℕ
+write_text = line (codes "write fault")
+
+abbrev pub memory_text : List ℕ
+memory_text = line (codes "out of memory")
+
+abbrev pub text_of : End → List ℕ
+text_of end.Usage = usage_text
+text_of (end.Objects fault) = objects_text fault
+text_of (end.FileMissing path) = missing_text path.now
+text_of (end.FileUnreadable path) = unreadable_text path.now
+text_of end.Read = read_text
+text_of end.Write = write_text
+text_of end.Memory = memory_text
+
+-- what is told of an end
+abbrev pub report_of : Result (Unit {0}) End → List ℕ
+report_of (Ok _) = []
+report_of (Err fault) = text_of fault

@@ -1,0 +1,10 @@
+pub mod CommandLine
+pub mod Objects
+pub mod ObjectLines
+pub mod Answer
+pub mod Body
+pub mod Replies
+pub mod Reading
+pub mod Session
+pub mod Faults
+pub mod Run

@@ -1,0 +1,37 @@
+//! lqd: a query server for the state of a monitoring core.
+//!
+//! `lqd ask OBJECTS` reads a Nagios object file and answers the first message of its standard input.
+#![tactic(auto)]
+
+mod answer;
+mod command_line;
+mod fault;
+mod objects;
+mod run;
+mod session;
+
+use lq_outside::{StandardStream, StdFiles, StdSink, StdSource};
+use std::process::ExitCode;
+
+fn main(rt: HostRuntime) -> ExitCode {
+    let mut files = StdFiles::new(&rt);
+    let mut input = StdSource::new(rt.stdin());
+    let mut output = StdSink::new(StandardStream::Output(rt.stdout()));
+    let mut faults = StdSink::new(StandardStream::Errors(rt.stderr()));
+    let status = match command_line::words(&rt) {
+        Ok(words) => run::run(
+            &rt,
+            rt.alloc(),
+            &words,
+            &mut files,
+            &mut input,
+            &mut output,
+            &mut faults,
+        ),
+        Err(fault) => {
+            let _ = fault.report(&mut faults);
+            fault.status()
+        }
+    };
+    ExitCode::from(status)
+}

@@ -1,0 +1,153 @@
+ghost use Rattle.std.specs.Prelude.{◌≡◌, ◌↔◌, ◌⊎◌, ℕ, ◌≤◌, List, Option, Some, None, map, string_bytes, IfOk, IfErr, IfSome, IsNone, OnErr};
+ghost use Rattle.std.specs.Io.KnownBytes.{Appends, Keeps};
+ghost use Rattle.lq_outside.specs.Faults.{HasCause, Rose};
+ghost use Rattle.lq_outside.specs.Sinks.{AppendsFront};
+ghost use Rattle.lqd.specs.CommandLine.{asked_path};
+ghost use Rattle.lqd.specs.Faults.{IsStatus, report_of, status_of_end};
+ghost use Rattle.lqd.specs.Reading.{ReadsFirst, ReadsPart, ReadsSome};
+ghost use Rattle.lqd.specs.Replies.{meaning};
+ghost use Rattle.lqd.specs.Run.{IsRefused, IsReport, LoadsNoBase, MustRefuse, OnBase, OnFile, Reports};
+
+use crate::command_line::asked_path;
+use crate::fault::{Fault, OBJECTS_LIMIT, ObjectsFault};
+use crate::objects::{ObjectsErr, read_objects};
+use crate::session::{ReplyErr, first_reply};
+use lq_outside::{Files, LoadErr, Sink, Source, write_all};
+use lq_records::{Base, Rules};
+use std::alloc::Global;
+
+/// Runs the program: `ask OBJECTS` answers the first message of the input on the objects of a file.
+/// The answer is the status that the program ends with:
+///
+/// - 0: the reply was written whole, or there was no message, or it was refused or too long, which
+///   writes nothing.
+/// - 1: the words are outside the grammar.
+/// - 2: the object file is refused, or has more than 67,108,864 bytes.
+/// - 4: the object file is missing or can't be read.
+/// - 5: the input can't be read.
+/// - 6: the output can't be written.
+/// - 7: want of memory.
+///
+/// With a status above 0 its text goes to `faults`; a failed write of it changes no status.
+pub fn run<R, F: Files, S: Source, K: Sink>(
+    _rt: &R,
+    alloc: Global,
+    words: &[String],
+    files: &mut F,
+    input: &mut S,
+    output: &mut K,
+    faults: &mut K,
+) -> u8
+    // The statuses, and when each may come.
+    ensures status { IsStatus result }
+    ensures usage { (result ≡ 1) ↔ (asked_path (map string_bytes words.now) ≡ None) }
+    ensures objects { result ≡ 2 → OnFile (asked_path (map string_bytes words.now)) (F.held_at files.old)
+        (λ _ file. IsRefused file) }
+    ensures exactly { OnFile (asked_path (map string_bytes words.now)) (F.held_at files.old)
+        (λ _ file. MustRefuse result file) }
+    ensures file_cause { result ≡ 4 → Rose (F.faults files.old) (F.faults files.new) }
+    ensures read_cause { result ≡ 5 → Rose (S.faults input.old) (S.faults input.new) }
+    ensures write_cause { result ≡ 6 → Rose (K.faults output.old) (K.faults output.new) }
+
+    // What was read and written at each status.
+    ensures untouched { (result ≡ 1) ⊎ (result ≡ 2) ⊎ (result ≡ 4)
+        → (input.new ≡ input.old) × (output.new ≡ output.old) }
+    ensures read { (result ≡ 0) ⊎ (result ≡ 6)
+        → IfSome (S.left input.old) (λ all. ReadsFirst all (S.left input.new)) }
+    ensures written { result ≡ 0 → OnFile (asked_path (map string_bytes words.now)) (F.held_at files.old)
+        (λ _ file. OnBase file (λ base. IfSome (S.left input.old) (λ all.
+        Appends (K.held output.old) (K.held output.new) (meaning all base)))) }
+    ensures cut_short { result ≡ 6 → OnFile (asked_path (map string_bytes words.now)) (F.held_at files.old)
+        (λ _ file. OnBase file (λ base. IfSome (S.left input.old) (λ all.
+        AppendsFront (K.held output.old) (K.held output.new) (meaning all base)))) }
+    ensures part { result ≡ 5 → ReadsPart (S.left input.old) (S.left input.new) × (output.new ≡ output.old) }
+    ensures no_memory { result ≡ 7 → ReadsSome (S.left input.old) (S.left input.new) × (output.new ≡ output.old) }
+
+    // What the fault sink gets, where its count of faults doesn't rise.
+    ensures report { (Rose (K.faults faults.old) (K.faults faults.new) → ⊥)
+        → Reports (asked_path (map string_bytes words.now)) (F.held_at files.old) result (K.held faults.old) (K.held faults.new) }
+    ensures quiet { result ≡ 0 → faults.new ≡ faults.old }
+
+    // No count falls, and no file changes.
+    ensures files_later { F.faults files.old ≤ F.faults files.new }
+    ensures input_later { S.faults input.old ≤ S.faults input.new }
+    ensures output_later { K.faults output.old ≤ K.faults output.new }
+    ensures faults_later { K.faults faults.old ≤ K.faults faults.new }
+    ensures files_stay { (p : List ℕ) → F.held_at files.new p ≡ F.held_at files.old p }
+{
+    match work(alloc, words, files, input, output) {
+        Ok(()) => 0,
+        Err(fault) => {
+            let _ = fault.report(faults);
+            fault.status()
+        }
+    }
+}
+
+/// Loads the object file and reads it.
+fn load_base<'a, F: Files>(alloc: Global, path: &'a str, files: &mut F) -> Result<Base, Fault<'a>>
+    ensures ok { IfOk result (λ base. OnBase (F.held_at files.old path.now) (λ said. said ≡ base)) }
+    ensures err { IfErr result (LoadsNoBase path.now (F.held_at files.old path.now) (F.faults files.old) (F.faults files.new)) }
+    ensures later { F.faults files.old ≤ F.faults files.new }
+    ensures stays { (p : List ℕ) → F.held_at files.new p ≡ F.held_at files.old p }
+{
+    let bytes = match files.load(alloc, path, OBJECTS_LIMIT) {
+        Ok(bytes) => bytes,
+        Err(LoadErr::Missing) => return Err(Fault::FileMissing(path)),
+        Err(LoadErr::Failed) => return Err(Fault::FileUnreadable(path)),
+        Err(LoadErr::TooLarge) => return Err(Fault::Objects(ObjectsFault::TooLarge)),
+        Err(LoadErr::Memory) => return Err(Fault::Memory),
+    };
+    match read_objects(alloc, &bytes, Rules::default()) {
+        Ok(base) => Ok(base),
+        Err(ObjectsErr::At { line, what }) => Err(Fault::Objects(ObjectsFault::At { line, what })),
+        Err(ObjectsErr::Memory) => Err(Fault::Memory),
+    }
+}
+
+/// Does the work, or says why it ends.
+fn work<'a, F: Files, S: Source, K: Sink>(
+    alloc: Global,
+    words: &'a [String],
+    files: &mut F,
+    input: &mut S,
+    output: &mut K,
+) -> Result<(), Fault<'a>>
+    ensures usage { (status_of_end result ≡ 1) ↔ (asked_path (map string_bytes words.now) ≡ None) }
+    ensures objects { status_of_end result ≡ 2 → OnFile (asked_path (map string_bytes words.now)) (F.held_at files.old) (λ _ file. IsRefused file) }
+    ensures exactly { OnFile (asked_path (map string_bytes words.now)) (F.held_at files.old) (λ _ file. MustRefuse (status_of_end result) file) }
+    ensures file_cause { status_of_end result ≡ 4 → Rose (F.faults files.old) (F.faults files.new) }
+    ensures read_cause { status_of_end result ≡ 5 → Rose (S.faults input.old) (S.faults input.new) }
+    ensures write_cause { status_of_end result ≡ 6 → Rose (K.faults output.old) (K.faults output.new) }
+
+    ensures untouched { (status_of_end result ≡ 1) ⊎ (status_of_end result ≡ 2) ⊎ (status_of_end result ≡ 4)
+        → (input.new ≡ input.old) × (output.new ≡ output.old) }
+    ensures read { (status_of_end result ≡ 0) ⊎ (status_of_end result ≡ 6)
+        → IfSome (S.left input.old) (λ all. ReadsFirst all (S.left input.new)) }
+    ensures written { status_of_end result ≡ 0 → OnFile (asked_path (map string_bytes words.now)) (F.held_at files.old)
+        (λ _ file. OnBase file (λ base. IfSome (S.left input.old) (λ all. Appends (K.held output.old) (K.held output.new) (meaning all base)))) }
+    ensures cut_short { status_of_end result ≡ 6 → OnFile (asked_path (map string_bytes words.now)) (F.held_at files.old)
+        (λ _ file. OnBase file (λ base. IfSome (S.left input.old) (λ all. AppendsFront (K.held output.old) (K.held output.new) (meaning all base)))) }
+    ensures part { status_of_end result ≡ 5 → ReadsPart (S.left input.old) (S.left input.new) × (output.new ≡ output.old) }
+    ensures no_memory { status_of_end result ≡ 7 → ReadsSome (S.left input.old) (S.left input.new) × (output.new ≡ output.old) }
+
+    ensures report { IsReport (asked_path (map string_bytes words.now)) (F.held_at files.old) (status_of_end result) (report_of result) }
+    ensures files_later { F.faults files.old ≤ F.faults files.new }
+    ensures input_later { S.faults input.old ≤ S.faults input.new }
+    ensures output_later { K.faults output.old ≤ K.faults output.new }
+    ensures files_stay { (p : List ℕ) → F.held_at files.new p ≡ F.held_at files.old p }
+{
+    let Some(path) = asked_path(words) else {
+        return Err(Fault::Usage);
+    };
+    let base = load_base(alloc, path, files)?;
+    let reply = match first_reply(alloc, &base, input) {
+        Ok(reply) => reply,
+        Err(ReplyErr::Read) => return Err(Fault::Read),
+        Err(ReplyErr::Memory) => return Err(Fault::Memory),
+    };
+    match write_all(output, reply.as_slice()) {
+        Ok(()) => Ok(()),
+        Err(_) => Err(Fault::Write),
+    }
+}
