@@ -4,7 +4,7 @@ use Rattle.std.specs.Prelude.{bytes_eq, codes, if◌then◌else◌}
 use Rattle.std.specs.List.{enumerate_from, list_any}
 use Rattle.std.specs.Option.{option_map}
 use Rattle.std.specs.Str.{is_utf8}
-use Rattle.std.proofs.lemmas.Bool.{cases_Bool, cond_both, or_from, or_parts}
+use Rattle.std.proofs.lemmas.Bool.{cases_Bool, cond_both, false_from_ne_true, or_from, or_parts}
 use Rattle.std.proofs.lemmas.List.{reverse-append}
 use Rattle.std.proofs.lemmas.List.Folds.{list_any-append}
 use Rattle.std.proofs.lemmas.Slice.Eq.{bytes_eq-Decides}
@@ -321,52 +321,64 @@ line_outside rules hosts line rest next (Some word) opens later =
 -- a line that opens a block doesn't close one
 opening_stays : (line : Line) (word : List ℕ) → opened_kind line.text ≡ Some word → is_closing line ≡ false
 opening_stays line word opens =
-    ⊎_elim (λ (closing : is_closing line ≡ true).
+    false_from_ne_true (is_closing line) (λ closing.
     let brace : line.text ≡ codes "}" = (bytes_eq-Decides line.text (codes "}")).0 closing in
-    let none : opened_kind line.text ≡ None = ap opened_kind brace in
-    absurd (none_some word (sym none ∙ opens)))
-    (λ (stays : is_closing line ≡ false). stays)
-    (cases_Bool (is_closing line))
+    none_some word (sym (ap opened_kind brace) ∙ opens))
 
 ends_block-append : (lines : List Line) (line : Line) → list_any ends_block lines ≡ false → is_closing line ≡ false → is_opening line ≡ false → list_any ends_block (lines ++ line ∷ []) ≡ false
 ends_block-append lines line inside closing opening =
     list_any-append ends_block lines (line ∷ []) ∙ or_from _ _ inside (or_from _ _ (or_from _ _ closing opening) refl)
 
 -- a line that says something, in a block
-line_inside : (rules : Rules) (hosts : List Host) (opening : Line) (word : List ℕ) (lines : List Line) (line : Line) (rest : List Line) (next : Reader → Result Base Fault)
-    → opened_kind opening.text ≡ Some word → list_any ends_block lines ≡ false → list_any is_wide line.text ≡ false
-    → ((longer : List Host) → next (record { line = line.number; block = None; hosts = longer }) ≡ with_hosts longer rules (blocks_of (parts_of rest)))
-    → (list_any ends_block (lines ++ line ∷ []) ≡ false
-    → next (record { line = line.number; block = Some (so_far opening (kind_named word) (lines ++ line ∷ [])); hosts = hosts })
-    ≡ with_hosts hosts rules (blocks_of (parts_of ((opening ∷ (lines ++ line ∷ [])) ++ rest))))
-    → then_read (told line.number line.text hosts (Some (so_far opening (kind_named word) lines))) next
-    ≡ with_hosts hosts rules (blocks_of (parts_of ((opening ∷ lines) ++ line ∷ rest)))
-line_inside rules hosts opening word lines line rest next opens inside narrow outside further =
-    let kind : Kind = kind_named word in
-    let block : Open = so_far opening kind lines in
-    let shut : Result Reader Fault = Ok (record { line = line.number; block = None; hosts = with_block hosts block kind }) in
-    let fault : Result Reader Fault = Err (record { line = opening.number; what = Unclosed }) in
-    let longer : Result Open Fault → Result Reader Fault =
-    λ (read : Result Open Fault). then_read read (λ more. Ok (record { line = line.number; block = Some more; hosts = hosts })) in
-    let placed_in : Result Open Fault = with_directive line.number line.text block kind in
-    let starts : is_closing opening ≡ false = opening_stays opening word opens in
-    ⊎_elim (λ (closing : is_closing line ≡ true).
-    ap (λ test. then_read (if test then shut else if is_opening line then fault else longer placed_in) next) closing
-    ∙ outside (with_block hosts block kind)
-    ∙ sym (with_hosts-block hosts rules opening word lines (blocks_of (parts_of rest)))
-    ∙ sym (ap (with_hosts hosts rules) (closed opening word lines opens starts inside line rest closing)))
-    (λ (stays : is_closing line ≡ false).
-    ap (λ test. then_read (if test then shut else if is_opening line then fault else longer placed_in) next) stays
-    ∙ ⊎_elim (λ (opens_next : is_opening line ≡ true).
-    ap (λ test. then_read (if test then fault else longer placed_in) next) opens_next
-    ∙ sym (ap (with_hosts hosts rules) (unclosed_at_next opening word lines opens starts inside line rest stays opens_next)))
-    (λ (plain : is_opening line ≡ false).
-    ap (λ test. then_read (if test then fault else longer placed_in) next) plain
-    ∙ ap (λ read. then_read (longer read) next) (so_far-more opening kind lines line narrow)
-    ∙ further (ends_block-append lines line inside stays plain)
-    ∙ ap (λ all. with_hosts hosts rules (blocks_of (parts_of (opening ∷ all)))) (append_assoc lines (line ∷ []) rest))
-    (cases_Bool (is_opening line)))
-    (cases_Bool (is_closing line))
+module _ (rules : Rules) (hosts : List Host) (opening : Line) (word : List ℕ) (lines : List Line) (line : Line) (rest : List Line) (next : Reader → Result Base Fault)
+    (opens : opened_kind opening.text ≡ Some word) (inside : list_any ends_block lines ≡ false) where
+  abbrev block : Open
+  block = so_far opening (kind_named word) lines
+
+  abbrev shut : Result Reader Fault
+  shut = Ok (record { line = line.number; block = None; hosts = with_block hosts block block.kind })
+
+  abbrev fault : Result Reader Fault
+  fault = Err (record { line = opening.number; what = Unclosed })
+
+  abbrev longer : Result Open Fault → Result Reader Fault
+  longer read = then_read read (λ more. Ok (record { line = line.number; block = Some more; hosts = hosts }))
+
+  abbrev read_line : Result Reader Fault
+  read_line = told line.number line.text hosts (Some block)
+
+  abbrev whole : Result Base Fault
+  whole = with_hosts hosts rules (blocks_of (parts_of ((opening ∷ lines) ++ line ∷ rest)))
+
+  closing_read : is_closing line ≡ true
+      → next (record { line = line.number; block = None; hosts = with_block hosts block block.kind }) ≡ with_hosts (with_block hosts block block.kind) rules (blocks_of (parts_of rest))
+      → then_read read_line next ≡ whole
+  closing_read closing outside =
+      ap (λ test. then_read (if test then shut else if is_opening line then fault else longer (with_directive line.number line.text block block.kind)) next) closing
+      ∙ outside
+      ∙ sym (with_hosts-block hosts rules opening word lines (blocks_of (parts_of rest)))
+      ∙ sym (ap (with_hosts hosts rules) (closed opening word lines opens (opening_stays opening word opens) inside line rest closing))
+
+  staying_read : is_closing line ≡ false → read_line ≡ (if is_opening line then fault else longer (with_directive line.number line.text block block.kind))
+  staying_read stays =
+      ap (λ test. if test then shut else if is_opening line then fault else longer (with_directive line.number line.text block block.kind)) stays
+
+  opening_read : is_closing line ≡ false → is_opening line ≡ true → then_read read_line next ≡ whole
+  opening_read stays opens_next =
+      ap (λ read. then_read read next) (staying_read stays)
+      ∙ ap (λ test. then_read (if test then fault else longer (with_directive line.number line.text block block.kind)) next) opens_next
+      ∙ sym (ap (with_hosts hosts rules) (unclosed_at_next opening word lines opens (opening_stays opening word opens) inside line rest stays opens_next))
+
+  directive_read : is_closing line ≡ false → is_opening line ≡ false → list_any is_wide line.text ≡ false
+      → next (record { line = line.number; block = Some (so_far opening (kind_named word) (lines ++ line ∷ [])); hosts = hosts })
+      ≡ with_hosts hosts rules (blocks_of (parts_of ((opening ∷ (lines ++ line ∷ [])) ++ rest)))
+      → then_read read_line next ≡ whole
+  directive_read stays plain narrow further =
+      ap (λ read. then_read read next) (staying_read stays)
+      ∙ ap (λ test. then_read (if test then fault else longer (with_directive line.number line.text block block.kind)) next) plain
+      ∙ ap (λ read. then_read (longer read) next) (so_far-more opening (kind_named word) lines line narrow)
+      ∙ further
+      ∙ ap (λ all. with_hosts hosts rules (blocks_of (parts_of (opening ∷ all)))) (append_assoc lines (line ∷ []) rest)
 
 -- ---- all lines
 
@@ -405,41 +417,82 @@ ReadsInside rules lines =
     → read_on rules (record { line = n; block = Some (so_far opening (kind_named word) inner); hosts = hosts }) lines
     ≡ with_hosts hosts rules (blocks_of (parts_of ((opening ∷ inner) ++ told_after n lines)))
 
+-- one line more at the front
+module _ (rules : Rules) (line : List ℕ) (lines : List (List ℕ)) (outside : ReadsOutside rules lines) (inside : ReadsInside rules lines) where
+  abbrev next : Reader → Result Base Fault
+  next reader = read_on rules reader lines
+
+  outside_telling : (n : ℕ) (hosts : List Host) → AreNarrow (n + 1) lines → is_telling_text (trimmed line) ≡ true
+      → read_on rules (record { line = n; block = None; hosts = hosts }) (line ∷ lines) ≡ with_hosts hosts rules (blocks_of (parts_of (told_after n (line ∷ lines))))
+  outside_telling n hosts narrow telling =
+      let here : Line = line_of (n, line) in
+      read_on-telling rules n hosts None line lines telling
+      ∙ line_outside rules hosts here (told_after (n + 1) lines) next (opened_kind here.text) refl (λ word opens. inside (n + 1) hosts here word [] narrow opens refl)
+      ∙ sym (ap (λ all. with_hosts hosts rules (blocks_of (parts_of all))) (told_after-telling n line lines telling))
+
+  outside_silent : (n : ℕ) (hosts : List Host) → AreNarrow (n + 1) lines → is_telling_text (trimmed line) ≡ false
+      → read_on rules (record { line = n; block = None; hosts = hosts }) (line ∷ lines) ≡ with_hosts hosts rules (blocks_of (parts_of (told_after n (line ∷ lines))))
+  outside_silent n hosts narrow silent =
+      read_on-silent rules n hosts None line lines silent
+      ∙ outside (n + 1) hosts narrow
+      ∙ sym (ap (λ all. with_hosts hosts rules (blocks_of (parts_of all))) (told_after-silent n line lines silent))
+
+  reads_outside : ReadsOutside rules (line ∷ lines)
+  reads_outside n hosts narrow =
+      let parts = find_none is_wide_line (line_of (n, line)) (map line_of (enumerate_from (n + 1) lines)) narrow in
+      ⊎_elim (outside_telling n hosts parts.1) (outside_silent n hosts parts.1) (cases_Bool (is_telling_text (trimmed line)))
+
+  module _ (n : ℕ) (hosts : List Host) (opening : Line) (word : List ℕ) (inner : List Line) (opens : opened_kind opening.text ≡ Some word)
+      (plain : list_any ends_block inner ≡ false) where
+    abbrev block_so_far : Open
+    block_so_far = so_far opening (kind_named word) inner
+
+    abbrev all_so_far : List Line → Result Base Fault
+    all_so_far told_lines = with_hosts hosts rules (blocks_of (parts_of ((opening ∷ inner) ++ told_lines)))
+
+    inside_line : is_wide_line (line_of (n, line)) ≡ false → AreNarrow (n + 1) lines
+        → then_read (told (n + 1) (trimmed line) hosts (Some block_so_far)) next ≡ all_so_far (line_of (n, line) ∷ told_after (n + 1) lines)
+    inside_line here_narrow narrow =
+        let here : Line = line_of (n, line) in
+        let rest : List Line = told_after (n + 1) lines in
+        ⊎_elim (λ (closing : is_closing here ≡ true).
+        closing_read rules hosts opening word inner here rest next opens plain closing (outside (n + 1) (with_block hosts block_so_far block_so_far.kind) narrow))
+        (λ (stays : is_closing here ≡ false).
+        ⊎_elim (opening_read rules hosts opening word inner here rest next opens plain stays)
+        (λ (directs : is_opening here ≡ false).
+        directive_read rules hosts opening word inner here rest next opens plain stays directs here_narrow
+        (inside (n + 1) hosts opening word (inner ++ here ∷ []) narrow opens (ends_block-append inner here plain stays directs)))
+        (cases_Bool (is_opening here)))
+        (cases_Bool (is_closing here))
+
+    inside_telling : is_wide_line (line_of (n, line)) ≡ false → AreNarrow (n + 1) lines → is_telling_text (trimmed line) ≡ true
+        → read_on rules (record { line = n; block = Some block_so_far; hosts = hosts }) (line ∷ lines) ≡ all_so_far (told_after n (line ∷ lines))
+    inside_telling here_narrow narrow telling =
+        read_on-telling rules n hosts (Some block_so_far) line lines telling
+        ∙ inside_line here_narrow narrow
+        ∙ sym (ap all_so_far (told_after-telling n line lines telling))
+
+    inside_silent : AreNarrow (n + 1) lines → is_telling_text (trimmed line) ≡ false
+        → read_on rules (record { line = n; block = Some block_so_far; hosts = hosts }) (line ∷ lines) ≡ all_so_far (told_after n (line ∷ lines))
+    inside_silent narrow silent =
+        read_on-silent rules n hosts (Some block_so_far) line lines silent
+        ∙ inside (n + 1) hosts opening word inner narrow opens plain
+        ∙ sym (ap all_so_far (told_after-silent n line lines silent))
+
+  reads_inside : ReadsInside rules (line ∷ lines)
+  reads_inside n hosts opening word inner narrow opens plain =
+      let parts = find_none is_wide_line (line_of (n, line)) (map line_of (enumerate_from (n + 1) lines)) narrow in
+      ⊎_elim (inside_telling n hosts opening word inner opens plain parts.0 parts.1) (inside_silent n hosts opening word inner opens plain parts.1)
+      (cases_Bool (is_telling_text (trimmed line)))
+
+-- after any lines, outside a block and in one
 reads : (rules : Rules) (lines : List (List ℕ)) → ReadsOutside rules lines × ReadsInside rules lines
 reads rules [] = (
   (λ n hosts narrow. ap (λ (all : List Host). Ok (record { hosts = all; rules = rules })) (sym (append-nil hosts))),
-  (λ n hosts opening word inner narrow opens inside.
-      sym (ap (with_hosts hosts rules) (unclosed_at_end opening word inner opens (opening_stays opening word opens) inside))),
+  (λ n hosts opening word inner narrow opens plain. sym (ap (with_hosts hosts rules) (unclosed_at_end opening word inner opens (opening_stays opening word opens) plain))),
 )
 reads rules (line ∷ lines) =
-    let later = reads rules lines in (
-      (λ n hosts narrow.
-          let parts = find_none is_wide_line (line_of (n, line)) (map line_of (enumerate_from (n + 1) lines)) narrow in
-          ⊎_elim (λ (telling : is_telling_text (trimmed line) ≡ true).
-          read_on-telling rules n hosts None line lines telling
-          ∙ line_outside rules hosts (line_of (n, line)) (told_after (n + 1) lines) (λ next. read_on rules next lines) (opened_kind (trimmed line)) refl
-          (λ word opens. later.1 (n + 1) hosts (line_of (n, line)) word [] parts.1 opens refl)
-          ∙ sym (ap (λ all. with_hosts hosts rules (blocks_of (parts_of all))) (told_after-telling n line lines telling)))
-          (λ (silent : is_telling_text (trimmed line) ≡ false).
-          read_on-silent rules n hosts None line lines silent
-          ∙ later.0 (n + 1) hosts parts.1
-          ∙ sym (ap (λ all. with_hosts hosts rules (blocks_of (parts_of all))) (told_after-silent n line lines silent)))
-          (cases_Bool (is_telling_text (trimmed line)))),
-      (λ n hosts opening word inner narrow opens inside.
-          let parts = find_none is_wide_line (line_of (n, line)) (map line_of (enumerate_from (n + 1) lines)) narrow in
-          let block : Option Open = Some (so_far opening (kind_named word) inner) in
-          ⊎_elim (λ (telling : is_telling_text (trimmed line) ≡ true).
-          read_on-telling rules n hosts block line lines telling
-          ∙ line_inside rules hosts opening word inner (line_of (n, line)) (told_after (n + 1) lines) (λ next. read_on rules next lines) opens inside parts.0
-          (λ longer. later.0 (n + 1) longer parts.1)
-          (λ further. later.1 (n + 1) hosts opening word (inner ++ line_of (n, line) ∷ []) parts.1 opens further)
-          ∙ sym (ap (λ all. with_hosts hosts rules (blocks_of (parts_of ((opening ∷ inner) ++ all)))) (told_after-telling n line lines telling)))
-          (λ (silent : is_telling_text (trimmed line) ≡ false).
-          read_on-silent rules n hosts block line lines silent
-          ∙ later.1 (n + 1) hosts opening word inner parts.1 opens inside
-          ∙ sym (ap (λ all. with_hosts hosts rules (blocks_of (parts_of ((opening ∷ inner) ++ all)))) (told_after-silent n line lines silent)))
-          (cases_Bool (is_telling_text (trimmed line)))),
-    )
+    let later = reads rules lines in (reads_outside rules line lines later.0 later.1, reads_inside rules line lines later.0 later.1)
 
 -- ---- the file
 

@@ -9,6 +9,8 @@ mod fault;
 mod objects;
 mod run;
 mod session;
+#[cfg(test)]
+mod tests;
 
 use lq_outside::{StandardStream, StdFiles, StdSink, StdSource};
 use std::process::ExitCode;

@@ -1,0 +1,337 @@
+use crate::run::run;
+use lq_outside::{Failed, MemFiles, MemSink, MemSource, Sink, Source};
+use std::alloc::{AllocError, Global};
+use std::process::Abort;
+use std::test::Fail;
+
+/// An object file of two hosts.
+const HOSTS: &[u8] = b"define contact {
+ contact_name anna
+ }
+define host {
+ host_name web1
+ alias Web One
+ address 10.0.0.1
+ contacts anna
+ }
+define host {
+ host_name web2
+ alias Web Two
+ address 10.0.0.2
+ }
+";
+
+/// What a program is given, beside its words and its input: its file `f`, and the numbers of the calls
+/// that fail.
+#[derive(Clone, Copy)]
+struct Outside<'a> {
+    file: &'a [u8],
+    fail_load: &'a [u64],
+    fail_read: &'a [u64],
+    fail_write: &'a [u64],
+}
+
+const STEADY: Outside<'static> = Outside {
+    file: HOSTS,
+    fail_load: &[],
+    fail_read: &[],
+    fail_write: &[],
+};
+
+fn texts(alloc: Global, words: &[&str]) -> Result<Vec<String>, AllocError> {
+    let mut texts = Vec::new(alloc);
+    for word in words {
+        texts.push(String::from_str(alloc, word)?)?;
+    }
+    Ok(texts)
+}
+
+fn files(alloc: Global, bytes: &[u8], fail_at: &[u64]) -> Result<MemFiles, AllocError> {
+    let mut pairs = Vec::new(alloc);
+    pairs.push((
+        String::from_str(alloc, "f")?,
+        Vec::from_slice(alloc, bytes)?,
+    ))?;
+    MemFiles::new(alloc, pairs, Vec::from_slice(alloc, fail_at)?)
+}
+
+fn source(alloc: Global, bytes: &[u8], fail_at: &[u64]) -> Result<MemSource, AllocError> {
+    MemSource::new(
+        alloc,
+        Vec::from_slice(alloc, bytes)?,
+        Vec::from_slice(alloc, fail_at)?,
+    )
+}
+
+/// Runs the program in memory, and compares its status and what both outputs hold.
+fn assert_run<R: Abort + AllocGlobal>(
+    rt: &R,
+    words: &[&str],
+    outside: &Outside,
+    input: &[u8],
+    expected: (u8, &[u8], &[u8]),
+) -> Result<(), Fail> {
+    let alloc = rt.alloc();
+    let words = texts(alloc, words)?;
+    let mut files = files(alloc, outside.file, outside.fail_load)?;
+    let mut input = source(alloc, input, outside.fail_read)?;
+    let mut output = MemSink::new(alloc, Vec::from_slice(alloc, outside.fail_write)?)?;
+    let mut faults = MemSink::new(alloc, Vec::new(alloc))?;
+    let status = run(
+        rt,
+        alloc,
+        &words,
+        &mut files,
+        &mut input,
+        &mut output,
+        &mut faults,
+    );
+    assert_eq!(rt; status, expected.0);
+    assert_eq!(rt; output.held(), expected.1);
+    assert_eq!(rt; faults.held(), expected.2);
+    Ok(())
+}
+
+#[test]
+fn answers_a_query_on_hosts(rt: HostRuntime) -> Result<(), Fail> {
+    let cases: [(&[u8], &[u8]); 8] = [
+        (
+            b"GET hosts\nColumns: name alias address state\n\n",
+            b"web1;Web One;10.0.0.1;0\nweb2;Web Two;10.0.0.2;0\n",
+        ),
+        (b"GET hosts\nColumns: name state\n\n", b"web1;0\nweb2;0\n"),
+        (
+            b"\r\n\nGET\thosts\r\nColumns:state\r\nColumns: name",
+            b"0;web1\n0;web2\n",
+        ),
+        (
+            b"GET hosts\nColumns: name\n\nGET hosts\nColumns: alias\n\n",
+            b"web1\nweb2\n",
+        ),
+        (b"GET nothing\nColumns: name\n\n", b""),
+        (b"GET hosts\nColumns: nope\n\n", b""),
+        (b"FOO\n", b""),
+        (b"", b""),
+    ];
+    for (input, output) in cases {
+        assert_run(&rt, &["ask", "f"], &STEADY, input, (0, output, b""))?;
+    }
+    Ok(())
+}
+
+const QUERY: &[u8] = b"GET hosts\nColumns: name state\n\n";
+
+const ROWS: &[u8] = b"web1;0\nweb2;0\n";
+
+#[test]
+fn words_decide_what_is_done(rt: HostRuntime) -> Result<(), Fail> {
+    let usage = b"usage: lqd ask|replay|serve|load\n".as_slice();
+    let missing = b"file: nowhere: missing\n".as_slice();
+    let cases: [(&[&str], (u8, &[u8], &[u8])); 8] = [
+        (&["ask", "f"], (0, ROWS, b"")),
+        (&["ask", "--", "f"], (0, ROWS, b"")),
+        (&["ask", "f", "--"], (0, ROWS, b"")),
+        (&["ask", "nowhere"], (4, b"", missing)),
+        (&["ask"], (1, b"", usage)),
+        (&["ask", "-f"], (1, b"", usage)),
+        (&["ask", "f", "f"], (1, b"", usage)),
+        (&["serve", "f"], (1, b"", usage)),
+    ];
+    for (words, expected) in cases {
+        assert_run(&rt, words, &STEADY, QUERY, expected)?;
+    }
+    Ok(())
+}
+
+#[test]
+fn faults_have_their_status_and_text(rt: HostRuntime) -> Result<(), Fail> {
+    let unclosed = Outside {
+        file: b"define host {\n host_name a",
+        ..STEADY
+    };
+    let stray = Outside {
+        file: b"\nhost_name a\n",
+        ..STEADY
+    };
+    let wide = Outside {
+        file: b"a\n# \xc3\xa4\n",
+        ..STEADY
+    };
+    let unread = Outside {
+        fail_load: &[0],
+        ..STEADY
+    };
+    let cut_off = Outside {
+        fail_read: &[0],
+        ..STEADY
+    };
+    let full = Outside {
+        fail_write: &[0],
+        ..STEADY
+    };
+    let cases: [(&Outside, (u8, &[u8])); 6] = [
+        (&unclosed, (2, b"objects: line 1: unclosed\n")),
+        (&stray, (2, b"objects: line 2: stray line\n")),
+        (&wide, (2, b"objects: line 2: not built\n")),
+        (&unread, (4, b"file: f: cannot be read\n")),
+        (&cut_off, (5, b"read fault\n")),
+        (&full, (6, b"write fault\n")),
+    ];
+    for (outside, (status, text)) in cases {
+        assert_run(&rt, &["ask", "f"], outside, QUERY, (status, b"", text))?;
+    }
+    Ok(())
+}
+
+/// A source that gives one byte a read.
+#[derive(Drop)]
+struct OneByte {
+    inner: MemSource,
+}
+
+impl Source for OneByte {
+    ghost use Rattle.std.specs.Prelude.{None};
+
+    ghost left = { λ _. None };
+
+    ghost faults = { λ s. s.inner.faults };
+
+    ghost other_side = { λ _. (None, 0) };
+
+    fn read(&mut self, buf: &mut [u8]) -> Result<usize, Failed> {
+        let most = buf.len().min(1);
+        self.inner.read(&mut buf[..most])
+    }
+}
+
+/// A sink that takes three bytes a write at most.
+#[derive(Drop)]
+struct Narrow {
+    inner: MemSink,
+}
+
+impl Sink for Narrow {
+    ghost use Rattle.std.specs.Prelude.{None};
+
+    ghost held = { λ _. None };
+
+    ghost faults = { λ s. s.inner.faults };
+
+    ghost other_side = { λ _. (None, 0) };
+
+    fn write(&mut self, piece: &[u8]) -> Result<usize, Failed> {
+        let most = piece.len().min(3);
+        self.inner.write(&piece[..most])
+    }
+}
+
+fn narrow_sink(alloc: Global) -> Result<Narrow, AllocError> {
+    Ok(Narrow {
+        inner: MemSink::new(alloc, Vec::new(alloc))?,
+    })
+}
+
+#[test]
+fn pieces_change_nothing(rt: HostRuntime) -> Result<(), Fail> {
+    let alloc = rt.alloc();
+    let words = texts(alloc, &["ask", "f"])?;
+    let mut files = files(alloc, HOSTS, &[])?;
+    let mut input = OneByte {
+        inner: source(alloc, QUERY, &[])?,
+    };
+    let mut output = narrow_sink(alloc)?;
+    let mut faults = narrow_sink(alloc)?;
+    let status = run(
+        &rt,
+        alloc,
+        &words,
+        &mut files,
+        &mut input,
+        &mut output,
+        &mut faults,
+    );
+    assert_eq!(rt; status, 0);
+    assert_eq!(rt; output.inner.held(), ROWS);
+    assert_eq!(rt; faults.inner.held(), b"".as_slice());
+    Ok(())
+}
+
+/// The bytes with a number of copies of one byte between the other two parts.
+fn padded(
+    alloc: Global,
+    front: &[u8],
+    byte: u8,
+    count: usize,
+    back: &[u8],
+) -> Result<Vec<u8>, AllocError> {
+    let mut bytes = Vec::from_slice(alloc, front)?;
+    bytes.extend_from_slice(&vec![in alloc; byte; count]?)?;
+    bytes.extend_from_slice(back)?;
+    Ok(bytes)
+}
+
+#[test]
+fn a_file_has_67_108_864_bytes_at_most(rt: HostRuntime) -> Result<(), Fail> {
+    let alloc = rt.alloc();
+    let front = b"define host {\n host_name a\n}\n#";
+    let most = padded(alloc, front, b'-', 67_108_864 - front.len(), b"")?;
+    let within = Outside {
+        file: most.as_slice(),
+        ..STEADY
+    };
+    assert_run(&rt, &["ask", "f"], &within, QUERY, (0, b"a;0\n", b""))?;
+    let more = padded(alloc, front, b'-', 67_108_865 - front.len(), b"")?;
+    let past = Outside {
+        file: more.as_slice(),
+        ..STEADY
+    };
+    assert_run(
+        &rt,
+        &["ask", "f"],
+        &past,
+        QUERY,
+        (2, b"", b"objects: too large\n"),
+    )
+}
+
+#[test]
+fn a_reply_has_8_388_608_bytes_at_most(rt: HostRuntime) -> Result<(), Fail> {
+    let alloc = rt.alloc();
+    let query = b"GET hosts\nColumns: name\n\n";
+    let front = b"define host {\n host_name ";
+    let most = padded(alloc, front, b'a', 8_388_607, b"\n}")?;
+    let within = Outside {
+        file: most.as_slice(),
+        ..STEADY
+    };
+    let reply = padded(alloc, b"", b'a', 8_388_607, b"\n")?;
+    assert_run(
+        &rt,
+        &["ask", "f"],
+        &within,
+        query,
+        (0, reply.as_slice(), b""),
+    )?;
+    let more = padded(alloc, front, b'a', 8_388_608, b"\n}")?;
+    let past = Outside {
+        file: more.as_slice(),
+        ..STEADY
+    };
+    assert_run(&rt, &["ask", "f"], &past, query, (0, b"", b""))
+}
+
+#[test]
+fn a_message_has_65_536_bytes_at_most(rt: HostRuntime) -> Result<(), Fail> {
+    let alloc = rt.alloc();
+    let front = b"GET hosts\nColumns: name";
+    let most = padded(alloc, front, b' ', 65_536 - front.len() - 2, b"\n\n")?;
+    assert_run(
+        &rt,
+        &["ask", "f"],
+        &STEADY,
+        &most,
+        (0, b"web1\nweb2\n", b""),
+    )?;
+    let more = padded(alloc, front, b' ', 65_536 - front.len() - 1, b"\n\n")?;
+    assert_run(&rt, &["ask", "f"], &STEADY, &more, (0, b"", b""))
+}
