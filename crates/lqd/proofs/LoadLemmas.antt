@@ -1,11 +1,10 @@
 -- A loaded object file gives its base or its fault.
-use Rattle.std.proofs.Common.{◌≡◌, ℕ, ◌<◌, ◌≤◌, nat_lt, true, false, Option, Some, None, IfSome, Result, Ok, Err, List, length, refl, sym, ap, ◌∙◌, subst, arith}
+use Rattle.std.proofs.Common.{◌≡◌, ℕ, ◌<◌, ◌≤◌, nat_lt, true, false, Option, Some, None, IfSome, Ok, Err, List, length, refl, ap, ◌∙◌, subst, arith}
 use Rattle.std.specs.Prelude.{IsSomeAnd}
 use Rattle.lq_records.specs.declared.base.Base.{Base}
-use Rattle.lqd.specs.Objects.{Fault, base_of}
+use Rattle.lqd.specs.Objects.{base_of}
 use Rattle.lqd.specs.Faults.{fault_of_base, objects_fault}
 use Rattle.lqd.specs.Run.{OnBase, default_rules}
-use Rattle.lqd.specs.declared.fault.ObjectsFault.{ObjectsFault}
 use Rattle.lqd.specs.declared.fault.ObjectsFault.TheVariants.{At, TooLarge}
 use Rattle.lqd.specs.declared.fault.TheConstants.{OBJECTS_LIMIT}
 use Rattle.lqd.specs.declared.objects.ObjectsWhat.{ObjectsWhat}

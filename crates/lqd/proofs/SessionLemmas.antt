@@ -1,11 +1,9 @@
 -- The reply to the first message of an input, by what stands first in the bytes that are held.
-use Rattle.std.proofs.Common.{◌≡◌, ◌≢◌, ℕ, ◌+◌, ◌<◌, ◌≤◌, Bool, true, false, IsTrue, Option, Some, None, IfSome, List, [], ◌++◌, length, refl, sym, ap, ◌∙◌, subst, arith, append-nil}
-use Rattle.std.specs.Io.KnownBytes.{Consumes, Keeps, IsAtEnd}
-use Rattle.std.proofs.KnownBytes.{Consumes-trans, Consumes-kept}
+use Rattle.std.proofs.Common.{◌≡◌, ◌≢◌, ℕ, Bool, List, ap, ◌∙◌}
 use Rattle.lq_records.specs.declared.base.Base.{Base}
-use Rattle.lq_request.specs.Messages.{Piece, More, first_piece, needed, IsNext}
+use Rattle.lq_request.specs.Messages.{Piece, More, IsNext}
 use Rattle.lqd.specs.Replies.{meaning, reply_to_piece}
-use Rattle.lqd.specs.Reading.{IsReply, ReadsFirst, ReadsPart, ReadsSome}
+use Rattle.lqd.specs.Reading.{IsReply}
 
 -- the reply to a piece that stands first is the reply to the input
 pub is_reply : (bytes : List ℕ) (piece : Piece) (base : Base) (ended : Bool) (held : List ℕ) → IsNext ended held piece → piece ≢ More

@@ -36,10 +36,6 @@ status_of end.Read = 5
 status_of end.Write = 6
 status_of end.Memory = 7
 
-abbrev pub status_of_end : Result (Unit {0}) End → ℕ
-status_of_end (Ok _) = 0
-status_of_end (Err fault) = status_of fault
-
 -- ---- texts
 
 abbrev pub line : List ℕ → List ℕ
@@ -75,8 +71,3 @@ text_of (end.FileUnreadable path) = unreadable_text path.now
 text_of end.Read = read_text
 text_of end.Write = write_text
 text_of end.Memory = memory_text
-
--- what is told of an end
-abbrev pub report_of : Result (Unit {0}) End → List ℕ
-report_of (Ok _) = []
-report_of (Err fault) = text_of fault

@@ -1,9 +1,8 @@
 -- How much of an input is read until its first message is answered.
-use Rattle.std.specs.Prelude.{◌≡◌, ◌≢◌, ℕ, ◌<◌, ◌≤◌, Bool, true, false, IsTrue, Option, Some, None, IfSome, Result, Ok, Err, List, [], ◌++◌, length}
-use Rattle.std.specs.Io.KnownBytes.{Consumes, Keeps, IsAtEnd}
-use Rattle.lq_outside.specs.Faults.{Rose}
+use Rattle.std.specs.Prelude.{◌≡◌, ℕ, ◌≤◌, Bool, false, IsTrue, Option, Some, None, List, [], ◌++◌, length}
+use Rattle.std.specs.Io.KnownBytes.{Consumes}
 use Rattle.lq_records.specs.declared.base.Base.{Base}
-use Rattle.lq_request.specs.Messages.{Piece, More, first_piece, needed}
+use Rattle.lq_request.specs.Messages.{More, first_piece, needed}
 use Rattle.lq_request.specs.declared.cut.TheConstants.{MESSAGE_LIMIT}
 use Rattle.lqd.specs.Replies.{meaning}
 

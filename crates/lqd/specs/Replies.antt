@@ -1,5 +1,5 @@
 -- What a connection is answered.
-use Rattle.std.specs.Prelude.{ℕ, Bool, true, Result, Ok, Err, List, []}
+use Rattle.std.specs.Prelude.{ℕ, true, Result, Ok, Err, List, []}
 use Rattle.lq_records.specs.declared.base.Base.{Base}
 use Rattle.lq_records.specs.declared.refusal.Refusal.{Refusal}
 use Rattle.lq_request.specs.Messages.{Piece, Query, TooLong, Empty, More, first_piece}

@@ -1,8 +1,7 @@
 -- What a run says of the words, the files, the input and the two outputs.
-use Rattle.std.specs.Prelude.{◌≡◌, ℕ, ◌⊎◌, true, false, Option, Some, None, IsNone, IsSome, IfSome, IsSomeAnd, Result, Ok, Err, List, []}
+use Rattle.std.specs.Prelude.{◌≡◌, ℕ, ◌⊎◌, true, false, Option, Some, None, IsNone, IsSome, IfSome, IsSomeAnd, Ok, List, []}
 use Rattle.std.specs.Io.KnownBytes.{Appends}
 use Rattle.lq_outside.specs.Faults.{Rose}
-use Rattle.lq_outside.specs.Sinks.{AppendsFront}
 use Rattle.lq_records.specs.declared.base.Base.{Base}
 use Rattle.lq_records.specs.declared.base.Rules.{Rules}
 use Rattle.lqd.specs.Objects.{base_of}

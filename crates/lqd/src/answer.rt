@@ -1,9 +1,7 @@
-ghost use Rattle.std.specs.Prelude.{◌≡◌, ◌++◌, ◌∷◌, [], ◌<◌, length, map, IfOk, OnOk, MatchBool};
-ghost use Rattle.std.specs.List.{flat_map};
+ghost use Rattle.std.specs.Prelude.{◌≡◌, ◌++◌, ◌<◌, map, IfOk, OnOk};
 ghost use Rattle.lq_records.specs.Value.{shown};
-ghost use Rattle.lqd.specs.Answer.{answer_of, cell_text, csv, csv_line, line_of, lines_of, own_cell, host_cell, status_cell};
+ghost use Rattle.lqd.specs.Answer.{answer_of, cell_text, csv, csv_line, line_of, own_cell, host_cell, status_cell};
 ghost use Rattle.lqd.specs.Body.{AddsText, IsBody};
-ghost use Rattle.lqd.specs.declared.answer.TheConstants.{REPLY_LIMIT};
 
 use lq_records::{Base, Col, Host, HostColumn, Items, Memory, OwnColumn, StatusColumn, Val};
 use lq_request::Request;

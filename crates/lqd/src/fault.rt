@@ -1,8 +1,8 @@
-ghost use Rattle.std.specs.Prelude.{◌≡◌, ℕ, ◌++◌, ◌∷◌, [], ◌≤◌, List, length, drop, codes, OnOk};
+ghost use Rattle.std.specs.Prelude.{◌≡◌, ◌++◌, ◌≤◌, drop, OnOk};
 ghost use Rattle.std.specs.Fmt.{decimal};
 ghost use Rattle.std.specs.Io.KnownBytes.{Appends};
 ghost use Rattle.lq_outside.specs.Faults.{HasCause};
-ghost use Rattle.lqd.specs.Faults.{IsStatus, line, objects_text, report_of, status_of, status_of_end, text_of};
+ghost use Rattle.lqd.specs.Faults.{IsStatus, objects_text, status_of, text_of};
 
 use crate::objects::{ObjectsErr, ObjectsWhat};
 use crate::session::ReplyErr;

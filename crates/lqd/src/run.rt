@@ -1,12 +1,12 @@
-ghost use Rattle.std.specs.Prelude.{◌≡◌, ◌↔◌, ◌⊎◌, ℕ, ◌≤◌, List, Option, Some, None, map, string_bytes, IfOk, IfErr, IfSome, IsNone, OnErr};
-ghost use Rattle.std.specs.Io.KnownBytes.{Appends, Keeps};
-ghost use Rattle.lq_outside.specs.Faults.{HasCause, Rose};
+ghost use Rattle.std.specs.Prelude.{◌≡◌, ◌↔◌, ◌⊎◌, ℕ, ◌≤◌, List, None, map, string_bytes, IfOk, IfErr, IfSome};
+ghost use Rattle.std.specs.Io.KnownBytes.{Appends};
+ghost use Rattle.lq_outside.specs.Faults.{Rose};
 ghost use Rattle.lq_outside.specs.Sinks.{AppendsFront};
 ghost use Rattle.lqd.specs.CommandLine.{asked_path};
-ghost use Rattle.lqd.specs.Faults.{IsStatus, report_of, status_of_end};
+ghost use Rattle.lqd.specs.Faults.{IsStatus, status_of, text_of};
 ghost use Rattle.lqd.specs.Reading.{ReadsFirst, ReadsPart, ReadsSome};
 ghost use Rattle.lqd.specs.Replies.{meaning};
-ghost use Rattle.lqd.specs.Run.{IsRefused, IsReport, LoadsNoBase, MustRefuse, OnBase, OnFile, Reports};
+ghost use Rattle.lqd.specs.Run.{IsRefused, LoadsNoBase, MustRefuse, OnBase, OnFile, Reports};
 
 use crate::command_line::asked_path;
 use crate::fault::{Fault, OBJECTS_LIMIT, ObjectsFault};
@@ -64,7 +64,7 @@ pub fn run<R, F: Files, S: Source, K: Sink>(
     ensures no_memory { result ≡ 7 → ReadsSome (S.left input.old) (S.left input.new) × (output.new ≡ output.old) }
 
     // What the fault sink gets, where its count of faults doesn't rise.
-    ensures report { (Rose (K.faults faults.old) (K.faults faults.new) → ⊥)
+    ensures report { ¬ Rose (K.faults faults.old) (K.faults faults.new)
         → Reports (asked_path (map string_bytes words.now)) (F.held_at files.old) result (K.held faults.old) (K.held faults.new) }
     ensures quiet { result ≡ 0 → faults.new ≡ faults.old }
 
@@ -75,13 +75,33 @@ pub fn run<R, F: Files, S: Source, K: Sink>(
     ensures faults_later { K.faults faults.old ≤ K.faults faults.new }
     ensures files_stay { (p : List ℕ) → F.held_at files.new p ≡ F.held_at files.old p }
 {
-    match work(alloc, words, files, input, output) {
+    let Some(path) = asked_path(words) else {
+        return end(Fault::Usage, faults);
+    };
+    let base = match load_base(alloc, path, files) {
+        Ok(base) => base,
+        Err(fault) => return end(fault, faults),
+    };
+    let reply = match first_reply(alloc, &base, input) {
+        Ok(reply) => reply,
+        Err(ReplyErr::Read) => return end(Fault::Read, faults),
+        Err(ReplyErr::Memory) => return end(Fault::Memory, faults),
+    };
+    match write_all(output, reply.as_slice()) {
         Ok(()) => 0,
-        Err(fault) => {
-            let _ = fault.report(faults);
-            fault.status()
-        }
+        Err(_) => end(Fault::Write, faults),
     }
+}
+
+/// Tells why the program ends, and returns its status.
+fn end<K: Sink>(fault: Fault, faults: &mut K) -> u8
+    ensures code { result ≡ status_of fault.entry }
+    ensures known { IsStatus result }
+    ensures told { ¬ Rose (K.faults faults.old) (K.faults faults.new) → Appends (K.held faults.old) (K.held faults.new) (text_of fault.entry) }
+    ensures later { K.faults faults.old ≤ K.faults faults.new }
+{
+    let _ = fault.report(faults);
+    fault.status()
 }
 
 /// Loads the object file and reads it.
@@ -102,52 +122,5 @@ fn load_base<'a, F: Files>(alloc: Global, path: &'a str, files: &mut F) -> Resul
         Ok(base) => Ok(base),
         Err(ObjectsErr::At { line, what }) => Err(Fault::Objects(ObjectsFault::At { line, what })),
         Err(ObjectsErr::Memory) => Err(Fault::Memory),
-    }
-}
-
-/// Does the work, or says why it ends.
-fn work<'a, F: Files, S: Source, K: Sink>(
-    alloc: Global,
-    words: &'a [String],
-    files: &mut F,
-    input: &mut S,
-    output: &mut K,
-) -> Result<(), Fault<'a>>
-    ensures usage { (status_of_end result ≡ 1) ↔ (asked_path (map string_bytes words.now) ≡ None) }
-    ensures objects { status_of_end result ≡ 2 → OnFile (asked_path (map string_bytes words.now)) (F.held_at files.old) (λ _ file. IsRefused file) }
-    ensures exactly { OnFile (asked_path (map string_bytes words.now)) (F.held_at files.old) (λ _ file. MustRefuse (status_of_end result) file) }
-    ensures file_cause { status_of_end result ≡ 4 → Rose (F.faults files.old) (F.faults files.new) }
-    ensures read_cause { status_of_end result ≡ 5 → Rose (S.faults input.old) (S.faults input.new) }
-    ensures write_cause { status_of_end result ≡ 6 → Rose (K.faults output.old) (K.faults output.new) }
-
-    ensures untouched { (status_of_end result ≡ 1) ⊎ (status_of_end result ≡ 2) ⊎ (status_of_end result ≡ 4)
-        → (input.new ≡ input.old) × (output.new ≡ output.old) }
-    ensures read { (status_of_end result ≡ 0) ⊎ (status_of_end result ≡ 6)
-        → IfSome (S.left input.old) (λ all. ReadsFirst all (S.left input.new)) }
-    ensures written { status_of_end result ≡ 0 → OnFile (asked_path (map string_bytes words.now)) (F.held_at files.old)
-        (λ _ file. OnBase file (λ base. IfSome (S.left input.old) (λ all. Appends (K.held output.old) (K.held output.new) (meaning all base)))) }
-    ensures cut_short { status_of_end result ≡ 6 → OnFile (asked_path (map string_bytes words.now)) (F.held_at files.old)
-        (λ _ file. OnBase file (λ base. IfSome (S.left input.old) (λ all. AppendsFront (K.held output.old) (K.held output.new) (meaning all base)))) }
-    ensures part { status_of_end result ≡ 5 → ReadsPart (S.left input.old) (S.left input.new) × (output.new ≡ output.old) }
-    ensures no_memory { status_of_end result ≡ 7 → ReadsSome (S.left input.old) (S.left input.new) × (output.new ≡ output.old) }
-
-    ensures report { IsReport (asked_path (map string_bytes words.now)) (F.held_at files.old) (status_of_end result) (report_of result) }
-    ensures files_later { F.faults files.old ≤ F.faults files.new }
-    ensures input_later { S.faults input.old ≤ S.faults input.new }
-    ensures output_later { K.faults output.old ≤ K.faults output.new }
-    ensures files_stay { (p : List ℕ) → F.held_at files.new p ≡ F.held_at files.old p }
-{
-    let Some(path) = asked_path(words) else {
-        return Err(Fault::Usage);
-    };
-    let base = load_base(alloc, path, files)?;
-    let reply = match first_reply(alloc, &base, input) {
-        Ok(reply) => reply,
-        Err(ReplyErr::Read) => return Err(Fault::Read),
-        Err(ReplyErr::Memory) => return Err(Fault::Memory),
-    };
-    match write_all(output, reply.as_slice()) {
-        Ok(()) => Ok(()),
-        Err(_) => Err(Fault::Write),
     }
 }

@@ -1,9 +1,9 @@
-ghost use Rattle.std.specs.Prelude.{◌≡◌, ◌+◌, ◌<◌, ◌≤◌, ℕ, true, false, List, ◌++◌, length, vec_len, IfOk, IfErr, IfSome, OnErr};
-ghost use Rattle.std.specs.Io.KnownBytes.{Consumes, IsAtEnd, Keeps};
+ghost use Rattle.std.specs.Prelude.{◌≡◌, ◌<◌, ◌≤◌, length, vec_len, IfOk, IfErr, IfSome, OnErr};
+ghost use Rattle.std.specs.Io.KnownBytes.{Keeps};
 ghost use Rattle.lq_outside.specs.Faults.{HasCause, Rose};
 ghost use Rattle.lq_request.specs.Messages.{Query};
 ghost use Rattle.lq_request.specs.declared.cut.TheConstants.{MESSAGE_LIMIT};
-ghost use Rattle.lqd.specs.Reading.{Answers, ReadsFirst, ReadsPart, ReadsSome};
+ghost use Rattle.lqd.specs.Reading.{Answers, ReadsFirst};
 ghost use Rattle.lqd.specs.Replies.{meaning, reply_to_piece};
 ghost use Rattle.lqd.specs.Session.{Fills, StopsReading};
 

@@ -1,4 +1,4 @@
-use Rattle.std.proofs.Common.{◌≡◌, ◌++◌, ◌∷◌, [], drop, map}
+use Rattle.std.proofs.Common.{◌≡◌, ◌++◌, ◌∷◌, [], drop}
 use Rattle.std.specs.List.{flat_map}
 use Rattle.lqd.specs.Answer.{csv_line, line_of}
 use Rattle.lqd.proofs.answer.push_line.Given as goal

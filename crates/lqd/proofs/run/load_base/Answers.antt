@@ -1,4 +1,4 @@
-use Rattle.std.proofs.Common.{◌≡◌, Ok, Err, ap, sym, ◌∙◌, subst}
+use Rattle.std.proofs.Common.{◌≡◌, Ok, Err, ap, sym, ◌∙◌}
 use Rattle.lqd.specs.Objects.{base_of}
 use Rattle.lqd.specs.Run.{default_rules}
 use Rattle.lqd.proofs.LoadLemmas.{too_large, loaded_base, loaded_fault}

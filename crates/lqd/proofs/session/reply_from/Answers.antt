@@ -1,4 +1,3 @@
-use Rattle.std.proofs.Common.{sym}
 use Rattle.lqd.proofs.SessionLemmas.{is_reply}
 use Rattle.lqd.proofs.session.reply_from.Goals as goal
 
