@@ -6,8 +6,11 @@ use crate::text::Text;
 /// A host as the object file says it.
 #[derive(Debug, Drop)]
 pub struct Host {
+    /// The name by which queries and other objects speak of it.
     pub host_name: Text,
+    /// A longer name, for people.
     pub alias: Text,
+    /// Where it is reached: a name of the network, or numbers.
     pub address: Text,
 }
 
@@ -36,6 +39,8 @@ impl Default for Rules {
 /// which contacts see them.
 #[derive(Debug, Drop)]
 pub struct Base {
+    /// The hosts. A `HostId` is a place in this list.
     pub hosts: Items<Host>,
+    /// What a contact sees of services and groups.
     pub rules: Rules,
 }

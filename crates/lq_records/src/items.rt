@@ -26,21 +26,21 @@ impl<T> Items<T> {
         }
     }
 
-    /// The items of a vector. It takes no memory.
+    /// The items of a vector, in its order. It takes no memory.
     pub fn from_vec(inner: Vec<T>) -> Self
         ensures { result ≡ inner.items }
     {
         Items { inner }
     }
 
-    /// The items as a vector. It takes no memory.
+    /// The items as a vector, in their order. It takes no memory.
     pub fn into_vec(self) -> Vec<T>
         ensures { result.items ≡ self }
     {
         self.inner
     }
 
-    /// Adds an item at the end.
+    /// Adds an item at the end. After want of memory the list is as it was, and the item is dropped.
     pub fn push(&mut self, item: T) -> Result<(), Memory>
     where
         T: Drop,
@@ -51,18 +51,21 @@ impl<T> Items<T> {
         Ok(())
     }
 
+    /// How many items it has.
     pub fn len(&self) -> usize
         ensures { result ≡ length self.now }
     {
         self.inner.len()
     }
 
+    /// Whether it has no item.
     pub fn is_empty(&self) -> bool
         ensures { IsTrue result ↔ (self.now ≡ []) }
     {
         self.inner.is_empty()
     }
 
+    /// The items, in order.
     pub fn as_slice(&self) -> &[T]
         ensures { result.now ≡ self.now }
     {

@@ -8,6 +8,8 @@ mod ids;
 mod items;
 mod refusal;
 mod schema;
+#[cfg(test)]
+mod tests;
 mod text;
 mod value;
 

@@ -1,8 +1,10 @@
 use crate::text::Text;
 
-/// Why a message isn't answered as a query: the code of the reply, from 100 to 999, and its text.
+/// Why a message isn't answered as a query.
 #[derive(Debug, Drop, PartialEq, Eq)]
 pub struct Refusal {
+    /// The code of the reply, from 100 to 999.
     pub code: u16,
+    /// The text of the reply, without a line feed at its end.
     pub text: Text,
 }

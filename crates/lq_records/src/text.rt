@@ -17,7 +17,7 @@ impl Model for Text {
 }
 
 impl Text {
-    /// A copy of a text.
+    /// A copy of a text. The only error is want of memory.
     pub fn new(alloc: Global, text: &str) -> Result<Self, Memory>
         ensures { IfOk result (λ copy. copy ≡ text.now) }
     {
@@ -33,6 +33,7 @@ impl Text {
         Text { inner }
     }
 
+    /// The text as a string slice.
     pub fn as_str(&self) -> &str
         ensures { result.now ≡ self.now }
     {

@@ -8,7 +8,7 @@ pub fn is_blank(byte: u8) -> bool
     byte == b' ' || byte == b'\t'
 }
 
-/// The bytes without the blanks at both ends.
+/// The bytes without the blanks at both ends. Nothing is left where all are blanks.
 pub fn trim(bytes: &[u8]) -> &[u8]
     ensures { result.now ≡ trimmed bytes.now }
 {

@@ -4,6 +4,8 @@
 mod blanks;
 mod lines;
 mod numbers;
+#[cfg(test)]
+mod tests;
 
 pub use blanks::{is_blank, trim};
 pub use lines::next_line;

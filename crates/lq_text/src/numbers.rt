@@ -3,8 +3,8 @@ ghost use Rattle.std.specs.Char.{IsAsciiDigit};
 ghost use Rattle.std.specs.Option.{SomeIff};
 ghost use Rattle.lq_text.specs.Numbers.{IsNumber, number_of};
 
-/// The number that decimal digits say. None where there is no digit, where another byte stands among
-/// them, a sign or a blank too, and where the number is above `u64::MAX`.
+/// The number that decimal digits say. It may begin with zeros. None where there is no digit, where
+/// another byte stands among them, a sign or a blank too, and where the number is above `u64::MAX`.
 pub fn read_u64(b: &[u8]) -> Option<u64>
     ensures { SomeIff result (IsNumber b.now) (number_of b.now) }
 {
