@@ -5,12 +5,14 @@ ghost use Rattle.lq_request.specs.Extent.{IsExtent};
 
 use lq_text::next_line;
 
-/// Where the first message stands in the bytes: its lines from `start` to `end`, and the next message
-/// from `next` on.
+/// Where the first message stands in the bytes.
 #[derive(Clone, Copy, Debug)]
 pub struct Extent {
+    /// The place where its lines begin.
     pub start: usize,
+    /// The place where its lines end.
     pub end: usize,
+    /// The place behind the empty line that ends it; the same as `end` where that line hasn't come.
     pub next: usize,
 }
 

@@ -5,6 +5,8 @@ mod cut;
 mod extent;
 mod message;
 mod request;
+#[cfg(test)]
+mod tests;
 mod words;
 
 pub use cut::{Cut, Cutting, MESSAGE_LIMIT};

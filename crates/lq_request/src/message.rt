@@ -13,10 +13,12 @@ use std::alloc::Global;
 /// The most header lines that a query may have.
 pub const MOST_HEADERS: usize = 256;
 
-/// The words of a message: its table's name, and the columns' names in order.
+/// The words of a message.
 #[derive(Drop)]
 pub struct MessageWords<'a> {
+    /// The table's name.
     pub table: &'a [u8],
+    /// The columns' names, in order.
     pub columns: Vec<&'a [u8]>,
 }
 

@@ -12,6 +12,7 @@ use std::alloc::{AllocError, Global};
 /// What a query asks.
 #[derive(Debug, Drop)]
 pub struct Request {
+    /// The table whose rows are asked for.
     pub table: Table,
     /// The columns, in the order of the answer.
     pub columns: Items<Col>,

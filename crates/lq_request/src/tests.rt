@@ -1,0 +1,233 @@
+use super::*;
+use lq_records::{Base, Col, HostColumn, Items, OwnColumn, Rules, StatusColumn, Table};
+use std::alloc::{AllocError, Global};
+use std::process::Abort;
+use std::test::Fail;
+
+fn feed(rt: &impl Abort, cut: &mut Cut, piece: &[u8]) {
+    assert!(rt; piece.len() <= cut.room());
+    cut.feed(piece);
+}
+
+fn is_piece(found: Cutting<'_>, expected: Cutting<'_>) -> bool {
+    match (found, expected) {
+        (Cutting::Query(text), Cutting::Query(same)) => text == same,
+        (Cutting::TooLong(bytes), Cutting::TooLong(same)) => bytes == same,
+        (Cutting::More, Cutting::More) => true,
+        (Cutting::Empty, Cutting::Empty) => true,
+        _ => false,
+    }
+}
+
+#[test]
+fn whole_inputs_are_cut(rt: HostRuntime) -> Result<(), Fail> {
+    let cases: [(&[u8], Cutting<'_>, Cutting<'_>); 11] = [
+        (b"", Cutting::Empty, Cutting::Empty),
+        (b"\n\r\n\n", Cutting::Empty, Cutting::Empty),
+        (b"a\nb\n\n", Cutting::Query(b"a\nb\n"), Cutting::Empty),
+        (
+            b"a\n\nb\n\n",
+            Cutting::Query(b"a\n"),
+            Cutting::Query(b"b\n"),
+        ),
+        (
+            b"\n\r\n\na\n\n\n\nb",
+            Cutting::Query(b"a\n"),
+            Cutting::Query(b"b"),
+        ),
+        (
+            b"a\r\nb\r\n\r\n",
+            Cutting::Query(b"a\r\nb\r\n"),
+            Cutting::Empty,
+        ),
+        (b"a\nb", Cutting::Query(b"a\nb"), Cutting::Empty),
+        (b"a\nb\n", Cutting::Query(b"a\nb\n"), Cutting::Empty),
+        (b"a\n\r", Cutting::Query(b"a\n\r"), Cutting::Empty),
+        (b"\r", Cutting::Query(b"\r"), Cutting::Empty),
+        (b" \n\n", Cutting::Query(b" \n"), Cutting::Empty),
+    ];
+    for (input, first, second) in cases {
+        let mut cut = Cut::new(rt.alloc())?;
+        feed(&rt, &mut cut, input);
+        assert!(rt;
+            is_piece(cut.next_message(true), first),
+            "first of {input:?}"
+        );
+        assert!(rt;
+            is_piece(cut.next_message(true), second),
+            "second of {input:?}"
+        );
+    }
+    Ok(())
+}
+
+#[test]
+fn a_message_comes_byte_by_byte(rt: HostRuntime) -> Result<(), Fail> {
+    let mut cut = Cut::new(rt.alloc())?;
+    assert_eq!(rt; cut.room(), 65_537);
+    for byte in b"\na\r\n\r" {
+        feed(&rt, &mut cut, &[*byte]);
+        assert!(rt;
+            is_piece(cut.next_message(false), Cutting::More),
+            "at {byte}"
+        );
+    }
+    assert_eq!(rt; cut.room(), 65_532);
+    feed(&rt, &mut cut, b"\nb");
+    assert!(rt; is_piece(cut.next_message(false), Cutting::Query(b"a\r\n")));
+    assert_eq!(rt; cut.room(), 65_536);
+    assert!(rt; is_piece(cut.next_message(false), Cutting::More));
+    assert!(rt; is_piece(cut.next_message(true), Cutting::Query(b"b")));
+    assert_eq!(rt; cut.room(), 65_537);
+    Ok(())
+}
+
+fn repeated(alloc: Global, byte: u8, count: u32, end: &[u8]) -> Result<Vec<u8>, AllocError> {
+    let mut bytes = Vec::new(alloc);
+    for _ in 0..count {
+        bytes.push(byte)?;
+    }
+    bytes.extend_from_slice(end)?;
+    Ok(bytes)
+}
+
+#[test]
+fn a_message_ends_within_its_limit(rt: HostRuntime) -> Result<(), Fail> {
+    let alloc = rt.alloc();
+    let longest = repeated(alloc, b'a', 65_534, b"\n\n")?;
+    let text = repeated(alloc, b'a', 65_534, b"\n")?;
+    let longer = repeated(alloc, b'a', 65_535, b"\n\n")?;
+    let front = repeated(alloc, b'a', 65_535, b"\n")?;
+    let lines = repeated(alloc, b'\n', 65_536, b"")?;
+    let more_lines = repeated(alloc, b'\n', 65_537, b"")?;
+    let cases = [
+        (&longest, Cutting::Query(&text), 65_537),
+        (&longer, Cutting::TooLong(&front), 65_536),
+        (&front, Cutting::Query(&front), 65_537),
+        (&lines, Cutting::Empty, 65_537),
+        (&more_lines, Cutting::TooLong(&lines), 65_536),
+    ];
+    for (input, expected, room) in cases {
+        let mut cut = Cut::new(alloc)?;
+        feed(&rt, &mut cut, input);
+        assert!(rt; is_piece(cut.next_message(true), expected), "room {room}");
+        assert_eq!(rt; cut.room(), room);
+    }
+    Ok(())
+}
+
+const NAME: Col = Col {
+    own: OwnColumn::Host(HostColumn::Name),
+};
+
+const STATE: Col = Col {
+    own: OwnColumn::Host(HostColumn::Status(StatusColumn::State)),
+};
+
+fn read(alloc: Global, message: &[u8]) -> Result<Request, ReadErr> {
+    let base = Base {
+        hosts: Items::new(alloc),
+        rules: Rules::default(),
+    };
+    read_request(alloc, message, &base)
+}
+
+fn has_columns(read: &Result<Request, ReadErr>, columns: &[Col]) -> bool {
+    match read {
+        Ok(request) => request.table == Table::Hosts && request.columns.as_slice() == columns,
+        Err(_) => false,
+    }
+}
+
+fn is_refused(read: &Result<Request, ReadErr>, code: u16, text: &str) -> bool {
+    match read {
+        Err(ReadErr::Refused { refusal }) => {
+            refusal.code == code && refusal.text.as_str() == text
+        }
+        _ => false,
+    }
+}
+
+#[test]
+fn columns_are_read(rt: HostRuntime) -> Result<(), Fail> {
+    let cases: [(&[u8], &[Col]); 5] = [
+        (b"GET hosts\nColumns: name state", &[NAME, STATE]),
+        (b"GET hosts\r\nColumns:state\r\n", &[STATE]),
+        (
+            b"GET hosts\nColumns: state name\nColumns: state\n",
+            &[STATE, NAME, STATE],
+        ),
+        (b"\t GET\thosts \nColumns:\t\tname \t", &[NAME]),
+        (b"GET hosts\nColumns: name\tname", &[NAME, NAME]),
+    ];
+    for (message, columns) in cases {
+        let read = read(rt.alloc(), message);
+        assert!(rt; has_columns(&read, columns), "at {message:?}");
+    }
+    Ok(())
+}
+
+#[test]
+fn messages_that_are_not_built_are_refused(rt: HostRuntime) -> Result<(), Fail> {
+    let cases: [&[u8]; 14] = [
+        b"",
+        b"FOO",
+        b"GET\nColumns: name",
+        b"GET hosts",
+        b"GET nothing",
+        b"GET hosts x\nColumns: name",
+        b"get hosts\nColumns: name",
+        b"GET hosts\nColumns:",
+        b"GET hosts\nColumns: name\nColumns: \t",
+        b"GET hosts\nColumns: name\nLimit: 1",
+        b"GET hosts\ncolumns: name",
+        b"GET hosts\nColumns : name",
+        b"GET hosts\n Columns: name",
+        b"GET hosts\nColumns: name \xff",
+    ];
+    for message in cases {
+        let read = read(rt.alloc(), message);
+        assert!(rt; is_refused(&read, 400, "not built"), "at {message:?}");
+    }
+    Ok(())
+}
+
+#[test]
+fn unknown_words_are_refused(rt: HostRuntime) -> Result<(), Fail> {
+    let cases: [(&[u8], u16, &str); 6] = [
+        (b"GET nothing\nColumns: name", 404, "unknown table: nothing"),
+        (b"GET Hosts\nColumns: name", 404, "unknown table: Hosts"),
+        (b"GET nothing\nColumns: nope", 404, "unknown table: nothing"),
+        (
+            b"GET hosts\nColumns: name nope no",
+            450,
+            "unknown column: nope",
+        ),
+        (
+            b"GET hosts\nColumns: name\nColumns: no nope",
+            450,
+            "unknown column: no",
+        ),
+        (b"GET hosts\nColumns: Name", 450, "unknown column: Name"),
+    ];
+    for (message, code, text) in cases {
+        let read = read(rt.alloc(), message);
+        assert!(rt; is_refused(&read, code, text), "at {message:?}");
+    }
+    Ok(())
+}
+
+#[test]
+fn a_message_has_at_most_256_header_lines(rt: HostRuntime) -> Result<(), Fail> {
+    let alloc = rt.alloc();
+    let mut message = Vec::from_slice(alloc, b"GET hosts")?;
+    let mut columns = Vec::new(alloc);
+    for _ in 0..256 {
+        message.extend_from_slice(b"\nColumns: name")?;
+        columns.push(NAME)?;
+    }
+    assert!(rt; has_columns(&read(alloc, &message), &columns));
+    message.extend_from_slice(b"\nColumns: name")?;
+    assert!(rt; is_refused(&read(alloc, &message), 400, "not built"));
+    Ok(())
+}
