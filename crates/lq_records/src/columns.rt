@@ -38,3 +38,11 @@ pub struct Col {
     /// The column on what a row is about.
     pub own: OwnColumn,
 }
+
+/// The name by which a query asks for a column, in two parts: what it is joined by, and its own name.
+#[derive(Clone, Copy, Debug, PartialEq, Eq)]
+pub struct Name {
+    /// Empty for a column of the table's own.
+    pub prefix: &'static str,
+    pub name: &'static str,
+}

@@ -14,13 +14,13 @@ mod text;
 mod value;
 
 pub use base::{Base, Host, Rules};
-pub use columns::{Col, HostColumn, OwnColumn, StatusColumn, Table};
+pub use columns::{Col, HostColumn, Name, OwnColumn, StatusColumn, Table};
 pub use ids::{
     CommandId, ContactGroupId, ContactId, HostGroupId, HostId, PeriodId, ServiceGroupId, ServiceId,
 };
 pub use items::Items;
 pub use refusal::Refusal;
-pub use schema::{column, table};
+pub use schema::{column, column_at, column_count, column_name, table};
 pub use text::Text;
 pub use value::Val;
 

@@ -129,3 +129,21 @@ fn a_column_is_named_as_it_is_written(rt: HostRuntime) {
         assert_eq!(rt; column(Table::Hosts, name), expected, "at {name:?}");
     }
 }
+
+#[test]
+fn the_columns_of_a_table_come_in_their_order(rt: HostRuntime) {
+    let columns = [
+        (HostColumn::Name, "name"),
+        (HostColumn::Alias, "alias"),
+        (HostColumn::Address, "address"),
+        (HostColumn::Status(StatusColumn::State), "state"),
+    ];
+    assert_eq!(rt; column_count(Table::Hosts), 4);
+    for i in 0..column_count(Table::Hosts) {
+        let (own, name) = columns[i];
+        let found = column_at(Table::Hosts, i);
+        assert_eq!(rt; found.own, OwnColumn::Host(own));
+        assert_eq!(rt; column_name(found), Name { prefix: "", name });
+        assert_eq!(rt; column(Table::Hosts, name), Some(found));
+    }
+}

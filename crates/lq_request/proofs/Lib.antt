@@ -1,5 +1,5 @@
 pub mod FrontLemmas
 pub mod MessageLemmas
 pub mod CutLemmas
-pub mod WordLemmas
 pub mod TextLemmas
+pub mod HeaderLemmas

@@ -35,7 +35,7 @@ first_line_of bytes more has = whole_lines-append bytes more (feed_place bytes) 
     (λ k low is. eqb-false _ _ (fails_before_first (λ byte. byte == 10) bytes k 0 low) is)
     (eqb-true _ _ (passes_at_first (λ byte. byte == 10) bytes 0 has.within))
 
-pub first_line_alone : (bytes : List ℕ) → HasFeed bytes → whole_lines bytes ≡ take (feed_place bytes + 1) bytes ∷ whole_lines (drop (feed_place bytes + 1) bytes)
+first_line_alone : (bytes : List ℕ) → HasFeed bytes → whole_lines bytes ≡ take (feed_place bytes + 1) bytes ∷ whole_lines (drop (feed_place bytes + 1) bytes)
 first_line_alone bytes has = ap whole_lines (sym (append-nil bytes)) ∙ first_line_of bytes [] has
     ∙ ap (λ rest. take (feed_place bytes + 1) bytes ∷ whole_lines rest) (append-nil (drop (feed_place bytes + 1) bytes))
 

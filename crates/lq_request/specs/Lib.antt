@@ -2,6 +2,5 @@ pub mod Messages
 pub mod Extent
 pub mod Cutting
 pub mod Words
-pub mod Message
 pub mod Request
 pub mod Reading

@@ -1,86 +1,135 @@
 -- What a message asks, or why it is refused.
-use Rattle.std.specs.Prelude.{ℕ, ◌&&◌, nat_le, nat_eq, Bool, Option, Some, None, is_none, option_and_then, Result, Ok, Err, List, [], ◌∷◌, ◌++◌, length, drop, find, bytes_eq, codes, if◌then◌else◌}
-use Rattle.std.specs.List.{filter_map, starts_with}
-use Rattle.std.specs.Option.{option_map}
+use Rattle.std.specs.Prelude.{ℕ, ◌+◌, nat_lt, Bool, true, false, not, Option, Some, None, is_none, Result, Ok, Err, List, [], ◌∷◌, ◌++◌, take, drop, find, bytes_eq, codes, position, ◌==◌, if◌then◌else◌}
+use Rattle.std.specs.List.{filter_map}
 use Rattle.std.specs.Str.{is_utf8}
 use Rattle.lq_text.specs.Lines.{lines_of}
-use Rattle.lq_records.specs.Schema.{table_of, column_of}
+use Rattle.lq_text.specs.Blanks.{words_of}
+use Rattle.lq_records.specs.Schema.{table_of, column_of, columns_of}
+use Rattle.lq_records.specs.declared.columns.Col.{Col}
 use Rattle.lq_records.specs.declared.columns.Table.{Table}
 use Rattle.lq_records.specs.declared.refusal.Refusal.{Refusal}
-use Rattle.lq_text.specs.Blanks.{words_of}
 use Rattle.lq_request.specs.declared.request.Request.{Request}
-use Rattle.lq_request.specs.declared.message.TheConstants.{MOST_HEADERS}
+use Rattle.lq_request.specs.declared.header.TheConstants.{MOST_HEADERS}
 
--- ---- what a message says
+-- ---- refusals
 
--- The words of a message: its table's name, and the columns' names in order.
-pub record MessageWords : Type 0 where
-  pub table : List ℕ
-  pub columns : List (List ℕ)
+abbrev pub refusal : ℕ → List ℕ → List ℕ → Refusal
+refusal code text word = record { code = code; text = text ++ word }
 
-abbrev pub some_words : List (List ℕ) → Option (List (List ℕ))
-some_words [] = None
-some_words (word ∷ words) = Some (word ∷ words)
+abbrev pub invalid_request : Refusal
+invalid_request = refusal 452 (codes "invalid request") []
 
--- the words behind `Columns:`; None where the line doesn't begin so, or no word follows
-abbrev pub column_words : List ℕ → Option (List (List ℕ))
-column_words line = if starts_with nat_eq line (codes "Columns:") then some_words (words_of (drop 8 line)) else None
-
-abbrev pub with_front : List (List ℕ) → Option (List (List ℕ)) → Option (List (List ℕ))
-with_front words more = option_map (λ later. words ++ later) more
-
--- the words of all the lines; None where one line has none
-abbrev pub all_column_words : List (List ℕ) → Option (List (List ℕ))
-all_column_words [] = Some []
-all_column_words (line ∷ lines) = option_and_then (λ words. with_front words (all_column_words lines)) (column_words line)
-
--- the columns' words of 1 to 256 header lines
-abbrev pub header_words : List (List ℕ) → Option (List (List ℕ))
-header_words headers =
-    if nat_le 1 (length headers) && nat_le (length headers) MOST_HEADERS then all_column_words headers else None
-
--- the word behind `GET`; None where the line isn't `GET` and one more word
-abbrev pub table_word : List (List ℕ) → Option (List ℕ)
-table_word (get ∷ table ∷ []) = if bytes_eq get (codes "GET") then Some table else None
-table_word _ = None
-
-abbrev pub with_columns : List ℕ → Option (List (List ℕ)) → Option MessageWords
-with_columns table columns = option_map (λ words. record { table = table; columns = words }) columns
-
-abbrev pub words_of_lines : List (List ℕ) → Option MessageWords
-words_of_lines [] = None
-words_of_lines (first ∷ headers) = option_and_then (λ table. with_columns table (header_words headers)) (table_word (words_of first))
-
--- what a message says; None where it isn't built as the program reads it today
-abbrev pub words_of_message : List ℕ → Option MessageWords
-words_of_message message = if is_utf8 message then words_of_lines (lines_of message) else None
-
--- ---- what it asks
-
-abbrev pub not_built : Refusal
-not_built = record { code = 400; text = codes "not built" }
+abbrev pub missing_table : Refusal
+missing_table = refusal 451 (codes "missing table name") []
 
 abbrev pub unknown_table : List ℕ → Refusal
-unknown_table word = record { code = 404; text = codes "unknown table: " ++ word }
+unknown_table word = refusal 404 (codes "unknown table: ") word
+
+abbrev pub extra_words : Refusal
+extra_words = refusal 400 (codes "extra words after the table name") []
+
+abbrev pub not_utf8 : Refusal
+not_utf8 = refusal 400 (codes "not UTF-8") []
+
+abbrev pub too_many_headers : Refusal
+too_many_headers = refusal 400 (codes "too many headers") []
+
+abbrev pub no_colon : Refusal
+no_colon = refusal 400 (codes "line without a colon") []
+
+abbrev pub unknown_header : List ℕ → Refusal
+unknown_header name = refusal 400 (codes "unknown header: ") name
+
+abbrev pub bad_value : List ℕ → Refusal
+bad_value name = refusal 400 (codes "bad value for ") name
 
 abbrev pub unknown_column : List ℕ → Refusal
-unknown_column word = record { code = 450; text = codes "unknown column: " ++ word }
+unknown_column word = refusal 450 (codes "unknown column: ") word
+
+-- ---- the first line
+
+abbrev pub known_table : List ℕ → List (List ℕ) → Option Table → Result Table Refusal
+known_table word more None = Err (unknown_table word)
+known_table word [] (Some table) = Ok table
+known_table word (third ∷ more) (Some table) = Err extra_words
+
+abbrev pub table_of_words : List (List ℕ) → Result Table Refusal
+table_of_words [] = Err missing_table
+table_of_words (word ∷ more) = known_table word more (table_of word)
+
+-- the first word is `GET`, the second one the table's name, and no third follows
+abbrev pub first_words : List (List ℕ) → Result Table Refusal
+first_words [] = Err invalid_request
+first_words (get ∷ words) = if bytes_eq get (codes "GET") then table_of_words words else Err invalid_request
+
+abbrev pub first_line : List ℕ → Result Table Refusal
+first_line line = if is_utf8 line then first_words (words_of line) else Err not_utf8
+
+-- ---- a header line
 
 abbrev pub is_unknown : Table → List ℕ → Bool
 is_unknown table word = is_none (column_of table word)
 
-abbrev pub asked_columns : Table → List (List ℕ) → Option (List ℕ) → Result Request Refusal
-asked_columns table words (Some word) = Err (unknown_column word)
-asked_columns table words None = Ok (record { table = table; columns = filter_map (column_of table) words })
+abbrev pub named_columns : Table → List (List ℕ) → Option (List ℕ) → Result (List Col) Refusal
+named_columns table words (Some word) = Err (unknown_column word)
+named_columns table words None = Ok (filter_map (column_of table) words)
 
-abbrev pub asked_table : MessageWords → Option Table → Result Request Refusal
-asked_table words None = Err (unknown_table words.table)
-asked_table words (Some table) = asked_columns table words.columns (find (is_unknown table) words.columns)
+-- the columns that words name; the first word that names none decides
+abbrev pub columns_of_words : Table → List (List ℕ) → Result (List Col) Refusal
+columns_of_words table words = named_columns table words (find (is_unknown table) words)
 
-abbrev pub asked_words : Option MessageWords → Result Request Refusal
-asked_words None = Err not_built
-asked_words (Some words) = asked_table words (table_of words.table)
+-- the value of `Columns` has one word at least
+abbrev pub columns_value : Table → List (List ℕ) → Result (List Col) Refusal
+columns_value table [] = Err (bad_value (codes "Columns"))
+columns_value table (word ∷ words) = columns_of_words table (word ∷ words)
+
+abbrev pub header : Table → List ℕ → List ℕ → Result (List Col) Refusal
+header table name value = if bytes_eq name (codes "Columns") then columns_value table (words_of value) else Err (unknown_header name)
+
+abbrev pub is_colon : ℕ → Bool
+is_colon byte = byte == 58
+
+-- a name goes up to the first colon, the value follows it
+abbrev pub header_at : Table → List ℕ → Option ℕ → Result (List Col) Refusal
+header_at table line None = Err no_colon
+header_at table line (Some colon) = header table (take colon line) (drop (colon + 1) line)
+
+-- the columns of a header line, by its number from 1; of several faults the first in this order decides
+abbrev pub header_line : Table → ℕ → List ℕ → Result (List Col) Refusal
+header_line table number line =
+    if not (is_utf8 line) then Err not_utf8
+    else if nat_lt MOST_HEADERS number then Err too_many_headers
+    else header_at table line (position is_colon line)
+
+-- ---- a message
+
+abbrev pub with_columns : Result (List Col) Refusal → Result (List Col) Refusal → Result (List Col) Refusal
+with_columns (Err fault) later = Err fault
+with_columns (Ok columns) (Err fault) = Err fault
+with_columns (Ok columns) (Ok more) = Ok (columns ++ more)
+
+-- the columns of the header lines from a number on; the first line with a fault decides
+abbrev pub header_lines : Table → ℕ → List (List ℕ) → Result (List Col) Refusal
+header_lines table number [] = Ok []
+header_lines table number (line ∷ lines) = with_columns (header_line table number line) (header_lines table (number + 1) lines)
+
+-- a request without a `Columns` line asks for all columns, with a line of their names
+abbrev pub request_of : Table → List Col → Request
+request_of table [] = record { table = table; columns = columns_of table; head = true }
+request_of table (column ∷ columns) = record { table = table; columns = column ∷ columns; head = false }
+
+abbrev pub asked_columns : Table → Result (List Col) Refusal → Result Request Refusal
+asked_columns table (Err fault) = Err fault
+asked_columns table (Ok columns) = Ok (request_of table columns)
+
+abbrev pub asked_headers : List (List ℕ) → Result Table Refusal → Result Request Refusal
+asked_headers headers (Err fault) = Err fault
+asked_headers headers (Ok table) = asked_columns table (header_lines table 1 headers)
+
+abbrev pub asked_lines : List (List ℕ) → Result Request Refusal
+asked_lines [] = Err invalid_request
+asked_lines (first ∷ headers) = asked_headers headers (first_line first)
 
 -- what a message asks, or its refusal
 unfoldable pub asked : List ℕ → Result Request Refusal
-asked message = asked_words (words_of_message message)
+asked message = asked_lines (lines_of message)

@@ -3,12 +3,12 @@
 
 mod cut;
 mod extent;
-mod message;
+mod header;
 mod request;
 #[cfg(test)]
 mod tests;
 mod words;
 
 pub use cut::{Cut, Cutting, MESSAGE_LIMIT};
-pub use message::MOST_HEADERS;
+pub use header::MOST_HEADERS;
 pub use request::{ReadErr, Request, read_request};

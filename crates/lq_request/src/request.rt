@@ -1,21 +1,26 @@
-ghost use Rattle.std.specs.Prelude.{◌≡◌, ◌++◌, ℕ, List, map, IfOk};
+ghost use Rattle.std.specs.Prelude.{◌≡◌, ◌++◌, IfOk, map};
 ghost use Rattle.std.specs.List.{AllByRecursion};
 ghost use Rattle.std.specs.Str.{IsUtf8};
-ghost use Rattle.lq_request.specs.Reading.{Reads, ReadsColumns};
-ghost use Rattle.lq_request.specs.Request.{asked, asked_columns, is_unknown, not_built, unknown_column, unknown_table};
+ghost use Rattle.lq_records.specs.Schema.{columns_of};
+ghost use Rattle.lq_text.specs.Lines.{lines_of};
+ghost use Rattle.lq_request.specs.Reading.{Reads};
+ghost use Rattle.lq_request.specs.Request.{asked, first_line, first_words, known_table, request_of, table_of_words};
 
-use crate::message::{MessageWords, words_of_message};
-use crate::words::as_text;
-use lq_records::{Base, Col, Items, Memory, Refusal, Table, Text, column, table};
+use crate::header::header_lines;
+use crate::words::{as_text, is_text, words_of};
+use lq_records::{Base, Col, Items, Memory, Refusal, Table, Text, column_at, column_count, table};
+use lq_text::next_line;
 use std::alloc::{AllocError, Global};
 
 /// What a query asks.
 #[derive(Debug, Drop)]
 pub struct Request {
-    /// The table whose rows are asked for.
+    /// The table that is asked.
     pub table: Table,
     /// The columns, in the order of the answer.
     pub columns: Items<Col>,
+    /// Whether a line of the columns' names comes first.
+    pub head: bool,
 }
 
 /// Why a message gives no request.
@@ -37,48 +42,90 @@ impl From<AllocError> for ReadErr {
     }
 }
 
-/// What a message asks of a base, or its refusal: the message as `next_message` of `Cut` gives it. A
-/// message is refused with 400 `not built` unless it is UTF-8, its first line is `GET` and one more
-/// word, and 1 to 256 lines `Columns:` follow, each with one word at least; then with 404
-/// `unknown table: <word>`; then, at its first word that names no column of the table, with 450
-/// `unknown column: <word>`.
+/// What a message asks of a base, or its refusal: the message as `next_message` of `Cut` gives it.
+///
+/// The first line decides first: 400 `not UTF-8`; 452 `invalid request` where its first word isn't
+/// `GET`; 451 `missing table name`; 404 `unknown table: <word>`; 400 `extra words after the table
+/// name`. Then the first header line with a fault does, and in it the first of these: 400 `not UTF-8`;
+/// `too many headers` in the 257th; `line without a colon`; `unknown header: <name>`; `bad value for
+/// Columns` without a word; 450 `unknown column: <word>`.
 #[tactic(auto, unfolding(crate::specs::Request::asked))]
 pub fn read_request(alloc: Global, b: &[u8], _base: &Base) -> Result<Request, ReadErr>
     ensures { Reads result (asked b.now) }
 {
-    let Some(words) = words_of_message(alloc, b)? else {
-        return Err(refused(alloc, 400, "not built", "")?);
+    let Some((end, next)) = next_line(b, 0) else {
+        return Err(refused(alloc, 452, "invalid request", "")?);
     };
-    let MessageWords {
-        table: word,
-        columns,
-    } = words;
+    let table = first_line(alloc, &b[..end])?;
+    let columns = header_lines(alloc, table, &b[next..])?;
+    Ok(request_of(alloc, table, columns)?)
+}
+
+/// The table that a message's first line asks.
+fn first_line(alloc: Global, line: &[u8]) -> Result<Table, ReadErr>
+    ensures { Reads result (first_line line.now) }
+{
+    if !is_text(line) {
+        return Err(refused(alloc, 400, "not UTF-8", "")?);
+    }
+    let words = words_of(alloc, line)?;
+    let Some((get, more)) = words.split_first() else {
+        return Err(refused(alloc, 452, "invalid request", "")?);
+    };
+    if *get != b"GET".as_slice() {
+        return Err(refused(alloc, 452, "invalid request", "")?);
+    }
+    table_of_words(alloc, more)
+}
+
+/// The table that the words behind `GET` name.
+fn table_of_words(alloc: Global, words: &[&[u8]]) -> Result<Table, ReadErr>
+    requires { AllByRecursion IsUtf8 (map (λ word. word.now) words.now) }
+    ensures { Reads result (table_of_words (map (λ word. word.now) words.now)) }
+{
+    let Some((word, more)) = words.split_first() else {
+        return Err(refused(alloc, 451, "missing table name", "")?);
+    };
     let word = as_text(word);
     let Some(table) = table(word) else {
         return Err(refused(alloc, 404, "unknown table: ", word)?);
     };
-    let columns = columns_of(alloc, table, &columns)?;
-    Ok(Request { table, columns })
+    match more.split_first() {
+        None => Ok(table),
+        Some(_) => Err(refused(alloc, 400, "extra words after the table name", "")?),
+    }
 }
 
-/// The columns that words name, or the refusal of the first word that names none.
-fn columns_of(alloc: Global, table: Table, words: &[&[u8]]) -> Result<Items<Col>, ReadErr>
-    requires { AllByRecursion IsUtf8 (map (λ word. word.now) words.now) }
-    ensures { ReadsColumns result table (map (λ word. word.now) words.now) }
+/// The request for the columns chosen, or for all where none are.
+fn request_of(alloc: Global, table: Table, chosen: Items<Col>) -> Result<Request, Memory>
+    ensures { IfOk result (λ request. request ≡ request_of table chosen) }
+{
+    if !chosen.is_empty() {
+        return Ok(Request {
+            table,
+            columns: chosen,
+            head: false,
+        });
+    }
+    Ok(Request {
+        table,
+        columns: all_columns(alloc, table)?,
+        head: true,
+    })
+}
+
+fn all_columns(alloc: Global, table: Table) -> Result<Items<Col>, Memory>
+    ensures { IfOk result (λ columns. columns ≡ columns_of table) }
 {
     let mut columns = Items::new(alloc);
-    for word in words {
-        let word = as_text(word);
-        let Some(column) = column(table, word) else {
-            return Err(refused(alloc, 450, "unknown column: ", word)?);
-        };
-        columns.push(column)?;
+    for i in 0..column_count(table) {
+        columns.push(column_at(table, i))?;
     }
     Ok(columns)
 }
 
 /// The refusal with a code, and a text and a word behind it.
-fn refused(alloc: Global, code: u16, text: &str, word: &str) -> Result<ReadErr, Memory>
+pub fn refused(alloc: Global, code: u16, text: &str, word: &str) -> Result<ReadErr, Memory>
     ensures { IfOk result (λ e. e ≡ ReadErr.Refused (record { code = code; text = text.now ++ word.now })) }
 {
     let mut whole = String::from_str(alloc, text)?;

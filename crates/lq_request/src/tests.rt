@@ -120,6 +120,14 @@ const NAME: Col = Col {
     own: OwnColumn::Host(HostColumn::Name),
 };
 
+const ALIAS: Col = Col {
+    own: OwnColumn::Host(HostColumn::Alias),
+};
+
+const ADDRESS: Col = Col {
+    own: OwnColumn::Host(HostColumn::Address),
+};
+
 const STATE: Col = Col {
     own: OwnColumn::Host(HostColumn::Status(StatusColumn::State)),
 };
@@ -135,6 +143,13 @@ fn read(alloc: Global, message: &[u8]) -> Result<Request, ReadErr> {
 fn has_columns(read: &Result<Request, ReadErr>, columns: &[Col]) -> bool {
     match read {
         Ok(request) => request.table == Table::Hosts && request.columns.as_slice() == columns,
+        Err(_) => false,
+    }
+}
+
+fn has_head(read: &Result<Request, ReadErr>, head: bool) -> bool {
+    match read {
+        Ok(request) => request.head == head,
         Err(_) => false,
     }
 }
@@ -168,51 +183,73 @@ fn columns_are_read(rt: HostRuntime) -> Result<(), Fail> {
 }
 
 #[test]
-fn messages_that_are_not_built_are_refused(rt: HostRuntime) -> Result<(), Fail> {
-    let cases: [&[u8]; 14] = [
-        b"",
-        b"FOO",
-        b"GET\nColumns: name",
-        b"GET hosts",
-        b"GET nothing",
-        b"GET hosts x\nColumns: name",
-        b"get hosts\nColumns: name",
-        b"GET hosts\nColumns:",
-        b"GET hosts\nColumns: name\nColumns: \t",
-        b"GET hosts\nColumns: name\nLimit: 1",
-        b"GET hosts\ncolumns: name",
-        b"GET hosts\nColumns : name",
-        b"GET hosts\n Columns: name",
-        b"GET hosts\nColumns: name \xff",
+fn all_columns_are_read_where_none_is_chosen(rt: HostRuntime) -> Result<(), Fail> {
+    let all = [NAME, ALIAS, ADDRESS, STATE];
+    let cases: [(&[u8], bool); 3] = [
+        (b"GET hosts", true),
+        (b" GET\thosts\r\n", true),
+        (b"GET hosts\nColumns: name alias address state", false),
     ];
-    for message in cases {
+    for (message, head) in cases {
         let read = read(rt.alloc(), message);
-        assert!(rt; is_refused(&read, 400, "not built"), "at {message:?}");
+        assert!(rt; has_columns(&read, &all), "at {message:?}");
+        assert!(rt; has_head(&read, head), "at {message:?}");
     }
     Ok(())
 }
 
 #[test]
-fn unknown_words_are_refused(rt: HostRuntime) -> Result<(), Fail> {
-    let cases: [(&[u8], u16, &str); 6] = [
+fn faulty_first_lines_are_refused(rt: HostRuntime) -> Result<(), Fail> {
+    let cases: [(&[u8], u16, &str); 12] = [
+        (b"", 452, "invalid request"),
+        (b" \t", 452, "invalid request"),
+        (b"FOO", 452, "invalid request"),
+        (b"get hosts\nColumns: name", 452, "invalid request"),
+        (b"GETS hosts", 452, "invalid request"),
+        (b"GET\nColumns: name", 451, "missing table name"),
         (b"GET nothing\nColumns: name", 404, "unknown table: nothing"),
         (b"GET Hosts\nColumns: name", 404, "unknown table: Hosts"),
+        (b"GET nothing x", 404, "unknown table: nothing"),
+        (b"GET hosts x", 400, "extra words after the table name"),
+        (b"FOO \xff", 400, "not UTF-8"),
         (b"GET nothing\nColumns: nope", 404, "unknown table: nothing"),
-        (
-            b"GET hosts\nColumns: name nope no",
-            450,
-            "unknown column: nope",
-        ),
-        (
-            b"GET hosts\nColumns: name\nColumns: no nope",
-            450,
-            "unknown column: no",
-        ),
-        (b"GET hosts\nColumns: Name", 450, "unknown column: Name"),
     ];
     for (message, code, text) in cases {
         let read = read(rt.alloc(), message);
         assert!(rt; is_refused(&read, code, text), "at {message:?}");
+    }
+    Ok(())
+}
+
+#[test]
+fn faulty_headers_are_refused(rt: HostRuntime) -> Result<(), Fail> {
+    let cases: [(&[u8], u16, &str); 16] = [
+        (b"Columns name", 400, "line without a colon"),
+        (b"columns: name", 400, "unknown header: columns"),
+        (b"Columns : name", 400, "unknown header: Columns "),
+        (b" Columns: name", 400, "unknown header:  Columns"),
+        (b"Limit: 1", 400, "unknown header: Limit"),
+        (b": name", 400, "unknown header: "),
+        (b"Columns:", 400, "bad value for Columns"),
+        (b"Columns: name\nColumns: \t", 400, "bad value for Columns"),
+        (b"Columns: name \xff", 400, "not UTF-8"),
+        (b"Columns: nope \xc0\xaf", 400, "not UTF-8"),
+        (b"Columns: name\nLimit \xed\xa0\x80", 400, "not UTF-8"),
+        (b"Columns: name nope no", 450, "unknown column: nope"),
+        (
+            b"Columns: name\nColumns: no nope",
+            450,
+            "unknown column: no",
+        ),
+        (b"Columns: Name", 450, "unknown column: Name"),
+        (b"Columns: nope\nLimit \xff", 450, "unknown column: nope"),
+        (b"Limit: 1\nColumns: nope", 400, "unknown header: Limit"),
+    ];
+    for (headers, code, text) in cases {
+        let mut message = Vec::from_slice(rt.alloc(), b"GET hosts\n")?;
+        message.extend_from_slice(headers)?;
+        let read = read(rt.alloc(), &message);
+        assert!(rt; is_refused(&read, code, text), "at {headers:?}");
     }
     Ok(())
 }
@@ -227,7 +264,10 @@ fn a_message_has_at_most_256_header_lines(rt: HostRuntime) -> Result<(), Fail> {
         columns.push(NAME)?;
     }
     assert!(rt; has_columns(&read(alloc, &message), &columns));
-    message.extend_from_slice(b"\nColumns: name")?;
-    assert!(rt; is_refused(&read(alloc, &message), 400, "not built"));
+    let mut more = Vec::from_slice(alloc, &message)?;
+    more.extend_from_slice(b"\nno colon")?;
+    assert!(rt; is_refused(&read(alloc, &more), 400, "too many headers"));
+    message.extend_from_slice(b"\n\xff")?;
+    assert!(rt; is_refused(&read(alloc, &message), 400, "not UTF-8"));
     Ok(())
 }

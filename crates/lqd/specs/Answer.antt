@@ -1,5 +1,5 @@
 -- The reply to a query on a base.
-use Rattle.std.specs.Prelude.{ℕ, pos, nat_lt, List, [], ◌∷◌, ◌++◌, length, map, if◌then◌else◌}
+use Rattle.std.specs.Prelude.{ℕ, pos, nat_lt, Bool, true, false, List, [], ◌∷◌, ◌++◌, length, map, if◌then◌else◌}
 use Rattle.std.specs.List.{flat_map}
 use Rattle.std.specs.Fmt.{signed_decimal}
 use Rattle.lq_records.specs.declared.base.Base.{Base}
@@ -11,6 +11,7 @@ use Rattle.lq_records.specs.declared.columns.OwnColumn.{OwnColumn}
 use Rattle.lq_records.specs.declared.columns.OwnColumn.TheVariants as own
 use Rattle.lq_records.specs.declared.columns.StatusColumn.{StatusColumn}
 use Rattle.lq_records.specs.declared.columns.StatusColumn.TheVariants.{State}
+use Rattle.lq_records.specs.Schema.{own_name}
 use Rattle.lq_records.specs.Value.{Value, Number, Words}
 use Rattle.lq_request.specs.declared.request.Request.{Request}
 use Rattle.lqd.specs.declared.answer.Reply.{Reply}
@@ -40,9 +41,17 @@ cell_text (Words text) = text
 abbrev pub line_of : List Col → Host → List (List ℕ)
 line_of columns host = map (λ column. cell_text (own_cell column.own host)) columns
 
--- a line for each host, in the order of the base
-abbrev pub lines_of : Request → Base → List (List (List ℕ))
-lines_of request base = map (line_of request.columns) base.hosts
+-- the names of the columns
+abbrev pub names_of : List Col → List (List ℕ)
+names_of columns = map (λ column. own_name column.own) columns
+
+abbrev pub with_names : Bool → List Col → List (List (List ℕ)) → List (List (List ℕ))
+with_names true columns rows = names_of columns ∷ rows
+with_names false columns rows = rows
+
+-- the columns' names where they are asked for, then a line for each host in the order of the base
+abbrev pub lines_of : Request → List Host → List (List (List ℕ))
+lines_of request hosts = with_names request.head request.columns (map (line_of request.columns) hosts)
 
 -- ---- text
 
@@ -63,4 +72,4 @@ abbrev pub limited : List ℕ → Reply
 limited body = if nat_lt REPLY_LIMIT (length body) then record { code = 413; bytes = [] } else record { code = 200; bytes = body }
 
 abbrev pub answer_of : Request → Base → Reply
-answer_of request base = limited (csv (lines_of request base))
+answer_of request base = limited (csv (lines_of request base.hosts))

@@ -1,0 +1,116 @@
+ghost use Rattle.std.specs.Prelude.{◌≡◌, ◌+◌, ◌<◌, ◌^◌, ℕ, [], Ok, List, length, map, position, slice_index, IfSome};
+ghost use Rattle.std.specs.List.{AllByRecursion};
+ghost use Rattle.std.specs.Str.{IsUtf8, is_utf8};
+ghost use Rattle.lq_text.specs.Lines.{lines_of};
+ghost use Rattle.lq_text.specs.Blanks.{words_of};
+ghost use Rattle.lq_request.specs.Reading.{AddsColumns, Reads};
+ghost use Rattle.lq_request.specs.Request.{columns_value, header, header_at, header_line, header_lines, is_colon, with_columns};
+
+use crate::request::{ReadErr, refused};
+use crate::words::{as_text, is_text, words_of};
+use lq_records::{Col, Items, Table, column};
+use lq_text::next_line;
+use std::alloc::Global;
+
+/// The most header lines that a query may have.
+pub const MOST_HEADERS: usize = 256;
+
+/// The columns of all header lines, in order, or the refusal of the first line with a fault.
+pub fn header_lines(alloc: Global, table: Table, headers: &[u8]) -> Result<Items<Col>, ReadErr>
+    ensures { Reads result (header_lines table 1 (lines_of headers.now)) }
+{
+    let mut columns = Items::new(alloc);
+    let mut number = 0;
+    let mut at = 0;
+    'lines: while let Some((end, next)) = next_line(headers, at) {
+        number += 1;
+        columns = header_line(alloc, table, number, &headers[at..end], columns)?;
+        at = next;
+    }
+    Ok(columns)
+}
+
+/// The columns so far and those of one more header line.
+fn header_line(
+    alloc: Global,
+    table: Table,
+    number: usize,
+    line: &[u8],
+    columns: Items<Col>,
+) -> Result<Items<Col>, ReadErr>
+    ensures { Reads result (with_columns (Ok columns) (header_line table number line.now)) }
+{
+    if !is_text(line) {
+        return Err(refused(alloc, 400, "not UTF-8", "")?);
+    }
+    if number > MOST_HEADERS {
+        return Err(refused(alloc, 400, "too many headers", "")?);
+    }
+    header_at(alloc, table, line, columns)
+}
+
+/// The columns so far and those of a header, whose name goes up to its first colon.
+fn header_at(
+    alloc: Global,
+    table: Table,
+    line: &[u8],
+    columns: Items<Col>,
+) -> Result<Items<Col>, ReadErr>
+    requires { IsUtf8 line.now }
+    ensures { Reads result (with_columns (Ok columns) (header_at table line.now (position is_colon line.now))) }
+{
+    match colon_place(line) {
+        Some(colon) => header(alloc, table, &line[..colon], &line[colon + 1..], columns),
+        None => Err(refused(alloc, 400, "line without a colon", "")?),
+    }
+}
+
+fn colon_place(line: &[u8]) -> Option<usize>
+    ensures place { result ≡ position is_colon line.now }
+    ensures within { IfSome result (λ colon. colon < length line.now) }
+    ensures colon { IfSome result (λ colon. slice_index line.now colon ≡ 58) }
+{
+    line.iter().position(|byte| *byte == b':')
+}
+
+/// The columns so far and those of a header.
+fn header(
+    alloc: Global,
+    table: Table,
+    name: &[u8],
+    value: &[u8],
+    columns: Items<Col>,
+) -> Result<Items<Col>, ReadErr>
+    requires name { IsUtf8 name.now }
+    requires value { IsUtf8 value.now }
+    ensures { Reads result (with_columns (Ok columns) (header table name.now value.now)) }
+{
+    if name != b"Columns".as_slice() {
+        return Err(refused(alloc, 400, "unknown header: ", as_text(name))?);
+    }
+    let words = words_of(alloc, value)?;
+    if words.is_empty() {
+        return Err(refused(alloc, 400, "bad value for ", "Columns")?);
+    }
+    add_columns(alloc, table, &words, columns)
+}
+
+/// The columns so far and those that words name, or the refusal of the first word that names none.
+fn add_columns(
+    alloc: Global,
+    table: Table,
+    words: &[&[u8]],
+    mut columns: Items<Col>,
+) -> Result<Items<Col>, ReadErr>
+    requires { AllByRecursion IsUtf8 (map (λ word. word.now) words.now) }
+    ensures { AddsColumns result columns table (map (λ word. word.now) words.now) }
+{
+    for word in words {
+        let word = as_text(word);
+        let Some(column) = column(table, word) else {
+            return Err(refused(alloc, 450, "unknown column: ", word)?);
+        };
+        columns.push(column)?;
+    }
+    Ok(columns)
+}
