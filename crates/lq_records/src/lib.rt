@@ -3,6 +3,7 @@
 #![tactic(auto)]
 
 mod base;
+mod clean;
 mod columns;
 mod ids;
 mod items;
@@ -14,6 +15,7 @@ mod text;
 mod value;
 
 pub use base::{Base, Host, Rules};
+pub use clean::clean_text;
 pub use columns::{Col, HostColumn, Name, OwnColumn, StatusColumn, Table};
 pub use ids::{
     CommandId, ContactGroupId, ContactId, HostGroupId, HostId, PeriodId, ServiceGroupId, ServiceId,

@@ -147,3 +147,27 @@ fn the_columns_of_a_table_come_in_their_order(rt: HostRuntime) {
         assert_eq!(rt; column(Table::Hosts, name), Some(found));
     }
 }
+
+#[test]
+fn each_byte_at_which_no_character_begins_is_replaced(rt: HostRuntime) -> Result<(), Fail> {
+    let cases: [(&[u8], &str); 13] = [
+        (b"", ""),
+        (b"web 1;\n", "web 1;\n"),
+        ("app »17« € 𝄞".as_bytes(), "app »17« € 𝄞"),
+        (b"\xff", "\u{FFFD}"),
+        (b"a\x80b\xc3", "a\u{FFFD}b\u{FFFD}"),
+        (b"\xc0\xaf", "\u{FFFD}\u{FFFD}"),
+        (b"\xe0\x80\xaf", "\u{FFFD}\u{FFFD}\u{FFFD}"),
+        (b"\xed\xa0\x80", "\u{FFFD}\u{FFFD}\u{FFFD}"),
+        (b"\xf4\x90\x80\x80", "\u{FFFD}\u{FFFD}\u{FFFD}\u{FFFD}"),
+        (b"\xe2\x82", "\u{FFFD}\u{FFFD}"),
+        (b"\xe2\x82a", "\u{FFFD}\u{FFFD}a"),
+        (b"\xf0\x9d\x84\xc3\xa4", "\u{FFFD}\u{FFFD}\u{FFFD}ä"),
+        (b"\xc3\xc3\xa4", "\u{FFFD}ä"),
+    ];
+    for (bytes, expected) in cases {
+        let text = clean_text(rt.alloc(), bytes)?;
+        assert!(rt; text.as_str() == expected, "at {bytes:?}");
+    }
+    Ok(())
+}
