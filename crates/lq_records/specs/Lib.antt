@@ -1,3 +1,4 @@
 pub mod Clean
 pub mod Schema
+pub mod Sound
 pub mod Value

@@ -1,7 +1,40 @@
 ghost use Rattle.std.specs.Prelude.{◌≡◌, true, false};
 
+use crate::ids::{ContactGroupId, ContactId, HostId, ServiceId};
 use crate::items::Items;
 use crate::text::Text;
+
+/// The directives that hosts and services share.
+#[derive(Debug, Drop)]
+pub struct ObjectFields {
+    /// The name that people see. Where it isn't given, the object's own name.
+    pub display_name: Text,
+    /// The command that checks the object, with its arguments.
+    pub check_command: Text,
+    /// The name of the time period in which it is checked. It need not be in the base.
+    pub check_period: Text,
+    /// The name of the time period in which people are notified. It need not be in the base.
+    pub notification_period: Text,
+    /// How often a check has to find the object in trouble before its state is hard, 1 to 1,000,000.
+    pub max_check_attempts: u32,
+    /// 1 where people are notified about the object, else 0.
+    pub notifications_enabled: u8,
+    /// The contacts that are named at the object itself, in the order of the directive.
+    pub contacts: Items<ContactId>,
+    /// The contact groups, in the order of the directive.
+    pub contact_groups: Items<ContactGroupId>,
+    /// A remark.
+    pub notes: Text,
+    /// Where more about the object is found.
+    pub notes_url: Text,
+    /// Where something is done about the object.
+    pub action_url: Text,
+    /// The picture that goes with the object.
+    pub icon_image: Text,
+    /// The custom variables, each by its directive with the underscore and its value, in the order
+    /// in which their names first come.
+    pub custom_variables: Items<(Text, Text)>,
+}
 
 /// A host as the object file says it.
 #[derive(Debug, Drop)]
@@ -12,6 +45,87 @@ pub struct Host {
     pub alias: Text,
     /// Where it is reached: a name of the network, or numbers.
     pub address: Text,
+    /// The hosts by which it is reached, in the order of the directive.
+    pub parents: Items<HostId>,
+    /// What it shares with services.
+    pub fields: ObjectFields,
+}
+
+/// A service as the object file says it.
+#[derive(Debug, Drop)]
+pub struct Service {
+    /// The host that it runs on.
+    pub host: HostId,
+    /// Its name beside that of its host.
+    pub service_description: Text,
+    /// What it shares with hosts.
+    pub fields: ObjectFields,
+}
+
+/// A group of hosts.
+#[derive(Debug, Drop)]
+pub struct HostGroup {
+    pub hostgroup_name: Text,
+    /// A longer name, for people.
+    pub alias: Text,
+    /// The hosts in the group, in the order of the directive.
+    pub members: Items<HostId>,
+    pub notes: Text,
+    pub notes_url: Text,
+    pub action_url: Text,
+}
+
+/// A group of services.
+#[derive(Debug, Drop)]
+pub struct ServiceGroup {
+    pub servicegroup_name: Text,
+    /// A longer name, for people.
+    pub alias: Text,
+    /// The services in the group, in the order of the directive.
+    pub members: Items<ServiceId>,
+    pub notes: Text,
+    pub notes_url: Text,
+    pub action_url: Text,
+}
+
+/// Who is told about hosts and services, and may see them.
+#[derive(Debug, Drop)]
+pub struct Contact {
+    pub contact_name: Text,
+    /// A longer name, for people.
+    pub alias: Text,
+    pub email: Text,
+    pub pager: Text,
+    /// The name of a time period, which need not be in the base.
+    pub host_notification_period: Text,
+    /// The name of a time period, which need not be in the base.
+    pub service_notification_period: Text,
+}
+
+/// A group of contacts.
+#[derive(Debug, Drop)]
+pub struct ContactGroup {
+    pub contactgroup_name: Text,
+    /// A longer name, for people.
+    pub alias: Text,
+    /// The contacts in the group, in the order of the directive.
+    pub members: Items<ContactId>,
+}
+
+/// A time period.
+#[derive(Debug, Drop)]
+pub struct Period {
+    pub timeperiod_name: Text,
+    /// A longer name, for people.
+    pub alias: Text,
+}
+
+/// A command that checks or notifies.
+#[derive(Debug, Drop)]
+pub struct Command {
+    pub command_name: Text,
+    /// What is run.
+    pub command_line: Text,
 }
 
 /// Who sees what of services and groups, where a query names a contact.
@@ -36,11 +150,25 @@ impl Default for Rules {
 }
 
 /// The objects of a monitoring core, each kind in the order of the object file, and the rules by
-/// which contacts see them.
+/// which contacts see them. An id is a place in the list of its kind.
 #[derive(Debug, Drop)]
 pub struct Base {
-    /// The hosts. A `HostId` is a place in this list.
+    /// At most 10,000.
     pub hosts: Items<Host>,
+    /// At most 60,000.
+    pub services: Items<Service>,
+    /// At most 1,000.
+    pub host_groups: Items<HostGroup>,
+    /// At most 1,000.
+    pub service_groups: Items<ServiceGroup>,
+    /// At most 10,000.
+    pub contacts: Items<Contact>,
+    /// At most 1,000.
+    pub contact_groups: Items<ContactGroup>,
+    /// At most 1,000.
+    pub periods: Items<Period>,
+    /// At most 10,000.
+    pub commands: Items<Command>,
     /// What a contact sees of services and groups.
     pub rules: Rules,
 }

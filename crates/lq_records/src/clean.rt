@@ -10,8 +10,18 @@ use std::str;
 
 /// The text of any bytes: each valid character is kept, and each byte at which none begins becomes
 /// U+FFFD. The only error is want of memory.
-#[tactic(auto, unfolding(crate::specs::Clean::cleaned))]
 pub fn clean_text(alloc: Global, b: &[u8]) -> Result<Text, Memory>
+    ensures { IfOk result (λ text. text ≡ cleaned b.now) }
+{
+    match str::from_utf8(b) {
+        Ok(text) => Text::new(alloc, text),
+        Err(_) => clean_chars(alloc, b),
+    }
+}
+
+/// The same, character by character.
+#[tactic(auto, unfolding(crate::specs::Clean::cleaned))]
+fn clean_chars(alloc: Global, b: &[u8]) -> Result<Text, Memory>
     ensures { IfOk result (λ text. text ≡ cleaned b.now) }
 {
     let mut whole = String::new(alloc);

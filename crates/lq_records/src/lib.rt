@@ -9,12 +9,16 @@ mod ids;
 mod items;
 mod refusal;
 mod schema;
+mod status;
 #[cfg(test)]
 mod tests;
 mod text;
 mod value;
 
-pub use base::{Base, Host, Rules};
+pub use base::{
+    Base, Command, Contact, ContactGroup, Host, HostGroup, ObjectFields, Period, Rules, Service,
+    ServiceGroup,
+};
 pub use clean::clean_text;
 pub use columns::{Col, HostColumn, Name, OwnColumn, StatusColumn, Table};
 pub use ids::{
@@ -23,6 +27,7 @@ pub use ids::{
 pub use items::Items;
 pub use refusal::Refusal;
 pub use schema::{column, column_at, column_count, column_name, table};
+pub use status::{Comment, Downtime, Object, Status};
 pub use text::Text;
 pub use value::Val;
 

@@ -10,6 +10,8 @@ fn a_text_is_the_string_that_it_is_made_of(rt: HostRuntime) -> Result<(), Fail> 
         assert_eq!(rt; copy.as_str(), text);
         assert_eq!(rt; taken.as_str(), text);
         assert!(rt; copy == taken, "at {text:?}");
+        assert_eq!(rt; copy.into_string().as_str(), text);
+        assert_eq!(rt; taken.into_string().as_str(), text);
     }
     Ok(())
 }
@@ -170,4 +172,48 @@ fn each_byte_at_which_no_character_begins_is_replaced(rt: HostRuntime) -> Result
         assert!(rt; text.as_str() == expected, "at {bytes:?}");
     }
     Ok(())
+}
+
+#[test]
+fn a_long_text_is_clean_up_to_its_last_byte(rt: HostRuntime) -> Result<(), Fail> {
+    let alloc = rt.alloc();
+    let mut expected = String::new(alloc);
+    let mut bytes = Vec::new(alloc);
+    for _ in 0..9000 {
+        expected.push_str("Größe 5 € 𝄞;")?;
+        bytes.extend_from_slice("Größe 5 € 𝄞;".as_bytes())?;
+    }
+    assert!(rt; clean_text(alloc, &bytes)?.as_str() == expected.as_str());
+
+    bytes.push(0xC3)?;
+    expected.push('\u{FFFD}')?;
+    assert!(rt; clean_text(alloc, &bytes)?.as_str() == expected.as_str());
+    Ok(())
+}
+
+#[test]
+fn a_host_and_a_service_of_one_number_are_two_objects(rt: HostRuntime) {
+    let cases = [
+        (Object::Host(HostId(3)), Object::Host(HostId(3)), true),
+        (Object::Host(HostId(3)), Object::Host(HostId(4)), false),
+        (
+            Object::Service(ServiceId(3)),
+            Object::Service(ServiceId(3)),
+            true,
+        ),
+        (
+            Object::Service(ServiceId(3)),
+            Object::Service(ServiceId(0)),
+            false,
+        ),
+        (
+            Object::Host(HostId(3)),
+            Object::Service(ServiceId(3)),
+            false,
+        ),
+    ];
+    for (a, b, expected) in cases {
+        assert_eq!(rt; are_equal(&a, &b), expected, "at {a:?} {b:?}");
+        assert_eq!(rt; are_equal(&b, &a), expected, "at {b:?} {a:?}");
+    }
 }

@@ -39,6 +39,13 @@ impl Text {
     {
         self.inner.as_str()
     }
+
+    /// The text as a string. It takes no memory.
+    pub fn into_string(self) -> String
+        ensures { string_bytes result ≡ self }
+    {
+        self.inner
+    }
 }
 
 impl PartialEq for Text {

@@ -135,6 +135,13 @@ const STATE: Col = Col {
 fn read(alloc: Global, message: &[u8]) -> Result<Request, ReadErr> {
     let base = Base {
         hosts: Items::new(alloc),
+        services: Items::new(alloc),
+        host_groups: Items::new(alloc),
+        service_groups: Items::new(alloc),
+        contacts: Items::new(alloc),
+        contact_groups: Items::new(alloc),
+        periods: Items::new(alloc),
+        commands: Items::new(alloc),
         rules: Rules::default(),
     };
     read_request(alloc, message, &base)

@@ -1,5 +1,3 @@
-pub mod Narrow
-pub mod ByLine
 pub mod SessionLemmas
 pub mod DigitLemmas
 pub mod ReportLemmas

@@ -2,12 +2,12 @@
 use Rattle.std.proofs.Common.{◌≡◌, ℕ, ◌<◌, ◌≤◌, nat_lt, true, false, Option, Some, None, IfSome, Ok, Err, List, length, refl, ap, ◌∙◌, subst, arith}
 use Rattle.std.specs.Prelude.{IsSomeAnd}
 use Rattle.lq_records.specs.declared.base.Base.{Base}
-use Rattle.lqd.specs.Objects.{base_of}
+use Rattle.lq_objects.specs.Objects.{base_of}
 use Rattle.lqd.specs.Faults.{fault_of_base, objects_fault}
 use Rattle.lqd.specs.Run.{OnBase, default_rules}
 use Rattle.lqd.specs.declared.fault.ObjectsFault.TheVariants.{At, TooLarge}
 use Rattle.lqd.specs.declared.fault.TheConstants.{OBJECTS_LIMIT}
-use Rattle.lqd.specs.declared.objects.ObjectsWhat.{ObjectsWhat}
+use Rattle.lq_objects.specs.declared.fault.ObjectsWhat.{ObjectsWhat}
 
 -- a file past the limit is too large, whatever it says
 large_fault : (bytes : List ℕ) → OBJECTS_LIMIT < length bytes → objects_fault bytes default_rules ≡ Some TooLarge

@@ -3,8 +3,9 @@ use Rattle.std.specs.Prelude.{ℕ, ◌≢◌, ◌≤◌, nat_lt, Option, Some, N
 use Rattle.std.specs.Fmt.{decimal}
 use Rattle.lq_records.specs.declared.base.Base.{Base}
 use Rattle.lq_records.specs.declared.base.Rules.{Rules}
-use Rattle.lqd.specs.Objects.{Fault, base_of}
-use Rattle.lqd.specs.ObjectLines.{what_text}
+use Rattle.lq_objects.specs.Objects.{base_of}
+use Rattle.lq_objects.specs.Reading.{what_text}
+use Rattle.lq_objects.specs.declared.fault.Fault.{Fault}
 use Rattle.lqd.specs.declared.fault.TheConstants.{OBJECTS_LIMIT}
 use Rattle.lqd.specs.declared.fault.ObjectsFault.{ObjectsFault}
 use Rattle.lqd.specs.declared.fault.ObjectsFault.TheVariants.{At, TooLarge}

@@ -1,6 +1,4 @@
 pub mod CommandLine
-pub mod Objects
-pub mod ObjectLines
 pub mod Answer
 pub mod Body
 pub mod Replies

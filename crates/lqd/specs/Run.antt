@@ -4,7 +4,7 @@ use Rattle.std.specs.Io.KnownBytes.{Appends}
 use Rattle.lq_outside.specs.Faults.{Rose}
 use Rattle.lq_records.specs.declared.base.Base.{Base}
 use Rattle.lq_records.specs.declared.base.Rules.{Rules}
-use Rattle.lqd.specs.Objects.{base_of}
+use Rattle.lq_objects.specs.Objects.{base_of}
 use Rattle.lqd.specs.Faults.{objects_fault, objects_text, usage_text, missing_text, unreadable_text, read_text, write_text, memory_text}
 use Rattle.lqd.specs.declared.fault.ObjectsFault.{ObjectsFault}
 use Rattle.lqd.specs.declared.fault.Fault.{Fault}

@@ -6,7 +6,6 @@
 mod answer;
 mod command_line;
 mod fault;
-mod objects;
 mod run;
 mod session;
 #[cfg(test)]

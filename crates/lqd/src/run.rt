@@ -10,8 +10,8 @@ ghost use Rattle.lqd.specs.Run.{IsRefused, LoadsNoBase, MustRefuse, OnBase, OnFi
 
 use crate::command_line::asked_path;
 use crate::fault::{Fault, OBJECTS_LIMIT, ObjectsFault};
-use crate::objects::{ObjectsErr, read_objects};
 use crate::session::{ReplyErr, first_reply};
+use lq_objects::{ObjectsErr, read_objects};
 use lq_outside::{Files, LoadErr, Sink, Source, write_all};
 use lq_records::{Base, Rules};
 use std::alloc::Global;
@@ -121,6 +121,6 @@ fn load_base<'a, F: Files>(alloc: Global, path: &'a str, files: &mut F) -> Resul
     match read_objects(alloc, &bytes, Rules::default()) {
         Ok(base) => Ok(base),
         Err(ObjectsErr::At { line, what }) => Err(Fault::Objects(ObjectsFault::At { line, what })),
-        Err(ObjectsErr::Memory) => Err(Fault::Memory),
+        Err(ObjectsErr::Memory(_)) => Err(Fault::Memory),
     }
 }

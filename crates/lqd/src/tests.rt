@@ -157,14 +157,6 @@ fn faults_have_their_status_and_text(rt: HostRuntime) -> Result<(), Fail> {
         file: b"define host {\n host_name a",
         ..STEADY
     };
-    let stray = Outside {
-        file: b"\nhost_name a\n",
-        ..STEADY
-    };
-    let wide = Outside {
-        file: b"a\n# \xc3\xa4\n",
-        ..STEADY
-    };
     let unread = Outside {
         fail_load: &[0],
         ..STEADY
@@ -177,10 +169,8 @@ fn faults_have_their_status_and_text(rt: HostRuntime) -> Result<(), Fail> {
         fail_write: &[0],
         ..STEADY
     };
-    let cases: [(&Outside, (u8, &[u8])); 6] = [
+    let cases: [(&Outside, (u8, &[u8])); 4] = [
         (&unclosed, (2, b"objects: line 1: unclosed\n")),
-        (&stray, (2, b"objects: line 2: stray line\n")),
-        (&wide, (2, b"objects: line 2: not built\n")),
         (&unread, (4, b"file: f: cannot be read\n")),
         (&cut_off, (5, b"read fault\n")),
         (&full, (6, b"write fault\n")),
@@ -189,6 +179,144 @@ fn faults_have_their_status_and_text(rt: HostRuntime) -> Result<(), Fail> {
         assert_run(&rt, &["ask", "f"], outside, QUERY, (status, b"", text))?;
     }
     Ok(())
+}
+
+/// Runs the program on a file that it refuses.
+fn assert_refused<R: Abort + AllocGlobal>(rt: &R, file: &[u8], text: &[u8]) -> Result<(), Fail> {
+    let outside = Outside { file, ..STEADY };
+    assert_run(rt, &["ask", "f"], &outside, QUERY, (2, b"", text))
+}
+
+#[test]
+fn a_line_at_fault_is_told(rt: HostRuntime) -> Result<(), Fail> {
+    let cases: [(&[u8], &[u8]); 7] = [
+        (b"\nhost_name a\n", b"objects: line 2: stray line\n"),
+        (
+            b"define host {\nhost_name a\n}\n}\n",
+            b"objects: line 4: stray line\n",
+        ),
+        (
+            b"define host {\nhost_name a",
+            b"objects: line 1: unclosed\n",
+        ),
+        (
+            b"#\ndefine host {\nhost_name a\ndefine host {\n}\n",
+            b"objects: line 2: unclosed\n",
+        ),
+        (
+            b"define host {\nhost_name a\nuse t\n}",
+            b"objects: line 3: not flattened\n",
+        ),
+        (
+            b"define command {\nregister\t0\n}",
+            b"objects: line 2: not flattened\n",
+        ),
+        (
+            b"define host {\nhost_name a\nmax_check_attempts 0\n}",
+            b"objects: line 3: bad number\n",
+        ),
+    ];
+    for (file, text) in cases {
+        assert_refused(&rt, file, text)?;
+    }
+    Ok(())
+}
+
+#[test]
+fn a_name_at_fault_is_told(rt: HostRuntime) -> Result<(), Fail> {
+    let cases: [(&[u8], &[u8]); 6] = [
+        (b"define host {\nalias a\n}", b"objects: line 3: no name\n"),
+        (
+            b"define host {\nhost_name a;b\n}",
+            b"objects: line 3: bad name\n",
+        ),
+        (
+            b"define host {\nhost_name a\n}\ndefine host {\nhost_name a\n}",
+            b"objects: line 6: twice\n",
+        ),
+        (
+            b"define host {\nhost_name a\nparents b\n}",
+            b"objects: line 3: unknown name\n",
+        ),
+        (
+            b"define host {\nhost_name a\n}\ndefine service {\nhost_name a\nservice_description b\n}
+define servicegroup {\nservicegroup_name c\nmembers a,b,a\n}",
+            b"objects: line 10: unknown name\n",
+        ),
+        (
+            b"define host {\nhost_name a\nparents b\n}\ndefine host {\nhost_name a\n}",
+            b"objects: line 7: twice\n",
+        ),
+    ];
+    for (file, text) in cases {
+        assert_refused(&rt, file, text)?;
+    }
+    Ok(())
+}
+
+#[test]
+fn other_bytes_and_kinds_are_read_over(rt: HostRuntime) -> Result<(), Fail> {
+    let outside = Outside {
+        file: b"# \xff
+define escalation {
+use t
+}
+define host {
+host_name b\xc3\xbc\xff
+parents a, ,b\xc3\xbc\xff,a
+alias \xc2\xbb17\xc2\xab\xff \"quoted\"
+}
+define host {
+host_name a
+address  10.0.0.1\t
+}
+",
+        ..STEADY
+    };
+    assert_run(
+        &rt,
+        &["ask", "f"],
+        &outside,
+        b"GET hosts\nColumns: name alias address\n\n",
+        (
+            0,
+            b"b\xc3\xbc\xef\xbf\xbd;\xc2\xbb17\xc2\xab\xef\xbf\xbd \"quoted\";\na;a;10.0.0.1\n",
+            b"",
+        ),
+    )
+}
+
+/// Host blocks of three lines, with the numbers from 0 as their names.
+fn host_blocks(alloc: Global, count: u64) -> Result<Vec<u8>, AllocError> {
+    let mut file = Vec::new(alloc);
+    for number in 0..count {
+        let name = number.to_string(alloc)?;
+        file.extend_from_slice(b"define host {\nhost_name ")?;
+        file.extend_from_slice(name.as_bytes())?;
+        file.extend_from_slice(b"\n}\n")?;
+    }
+    Ok(file)
+}
+
+#[test]
+fn a_file_has_10_000_hosts_at_most(rt: HostRuntime) -> Result<(), Fail> {
+    let alloc = rt.alloc();
+    let most = host_blocks(alloc, 10_000)?;
+    let within = Outside {
+        file: most.as_slice(),
+        ..STEADY
+    };
+    let query = b"GET hosts\nColumns: state\n\n";
+    let reply = b"0\n".repeat(alloc, 10_000)?;
+    assert_run(
+        &rt,
+        &["ask", "f"],
+        &within,
+        query,
+        (0, reply.as_slice(), b""),
+    )?;
+    let more = host_blocks(alloc, 10_001)?;
+    assert_refused(&rt, &more, b"objects: line 30003: too many\n")
 }
 
 /// A source that gives one byte a read.

@@ -1,0 +1,15 @@
+pub mod CheckLemmas
+pub mod DirectoryLemmas
+pub mod DistinctLemmas
+pub mod FaultLemmas
+pub mod LineLemmas
+pub mod ListLemmas
+pub mod NameLemmas
+pub mod NumberLemmas
+pub mod ObjectLemmas
+pub mod PairLemmas
+pub mod PartLemmas
+pub mod PlaceLemmas
+pub mod ReadLemmas
+pub mod SoundLemmas
+pub mod VariableLemmas

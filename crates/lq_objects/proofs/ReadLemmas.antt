@@ -1,0 +1,50 @@
+-- The base of a file, or the fault that decides.
+use Rattle.std.proofs.Common.{◌≡◌, Option, Some, None, Result, Ok, Err, List, [], IsErrAnd, sym, ap, ◌∙◌, subst}
+use Rattle.std.specs.Option.{option_or}
+use Rattle.lq_records.specs.declared.base.Base.{Base}
+use Rattle.lq_records.specs.declared.base.Rules.{Rules}
+use Rattle.lq_objects.specs.Blocks.{Part}
+use Rattle.lq_objects.specs.Checks.{Tells}
+use Rattle.lq_objects.specs.Directories.{directory_of, known}
+use Rattle.lq_objects.specs.Faults.{blocks_of, first_of, parts_fault, unknown_fault, unknown_in_block}
+use Rattle.lq_objects.specs.Names.{Block}
+use Rattle.lq_objects.specs.Objects.{base_of_blocks, base_of_parts, base_or, objects_of}
+use Rattle.lq_objects.specs.Reading.{Reads}
+use Rattle.lq_objects.specs.declared.directory.Directory.{Directory}
+use Rattle.lq_objects.specs.declared.fault.Fault.{Fault}
+use Rattle.lq_objects.specs.declared.fault.ObjectsErr.{ObjectsErr}
+use Rattle.lq_objects.specs.declared.fault.ObjectsErr.TheVariants.{At, Memory}
+use Rattle.lq_objects.proofs.DirectoryLemmas.{known-directory}
+
+-- an error that is passed on
+pub reads_passed : (result : Result Base ObjectsErr) (error : ObjectsErr) (read : Result Base Fault) → IsErrAnd result (λ passed. passed ≡ error)
+    → Reads {X = Base} (Err error) read → Reads result read
+reads_passed (Ok base) error read passed reads = absurd passed
+reads_passed (Err other) error read passed reads = subst (λ (e : ObjectsErr). Reads {X = Base} (Err e) read) (sym passed) reads
+
+module _ (rules : Rules) (parts : List Part) where
+  -- by what the parts and the names in them have for faults
+  by_faults : (first unknown : Option Fault) → parts_fault [] parts ≡ first → unknown_fault (blocks_of parts) ≡ unknown
+      → base_of_parts rules parts ≡ base_or (option_or first unknown) (base_of_blocks rules (blocks_of parts))
+  by_faults first unknown is names =
+      ap (λ found. base_or (option_or found (unknown_fault (blocks_of parts))) (base_of_blocks rules (blocks_of parts))) is
+      ∙ ap (λ found. base_or (option_or first found) (base_of_blocks rules (blocks_of parts))) names
+
+  pub reads_fault : (error : ObjectsErr) → Tells error (parts_fault [] parts) → Reads (Err error) (base_of_parts rules parts)
+  reads_fault (At line what) fault = by_faults (Some (record { line = line; what = what })) _ fault (λ i. unknown_fault (blocks_of parts))
+  reads_fault (Memory _) fault = tt
+
+  module _ (directory : Directory) (blocks : List Block) (fine : parts_fault [] parts ≡ None) (all : blocks ≡ blocks_of parts)
+      (is : directory ≡ directory_of blocks) where
+    unknown_is : first_of (unknown_in_block (known directory)) blocks ≡ unknown_fault (blocks_of parts)
+    unknown_is = ap (λ names. first_of (unknown_in_block names) blocks) (known-directory directory blocks is) ∙ ap unknown_fault all
+
+    pub reads_unknown : (fault : Fault) → Some fault ≡ first_of (unknown_in_block (known directory)) blocks → base_of_parts rules parts ≡ Err fault
+    reads_unknown fault found = by_faults None (Some fault) fine (sym (found ∙ unknown_is))
+
+    pub reads_base : None ≡ first_of (unknown_in_block (known directory)) blocks
+        → base_of_parts rules parts ≡ Ok (objects_of (known directory) rules blocks)
+    reads_base none =
+        by_faults None None fine (sym (none ∙ unknown_is))
+        ∙ ap (λ found. Ok (base_of_blocks rules found)) (sym all)
+        ∙ ap (λ names. Ok (objects_of names rules blocks)) (sym (known-directory directory blocks is))

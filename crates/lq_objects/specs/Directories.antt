@@ -1,0 +1,43 @@
+-- The names of the objects so far, by kind.
+use Rattle.std.specs.Prelude.{List, [], ◌∷◌, ◌++◌}
+use Rattle.lq_objects.specs.Names.{Block, Name, names_of}
+use Rattle.lq_objects.specs.declared.kind.Kind.{Kind}
+use Rattle.lq_objects.specs.declared.kind.Kind.TheVariants.{Host, Service, HostGroup, ServiceGroup, Contact, ContactGroup, Period, Command}
+use Rattle.lq_objects.specs.declared.directory.Directory.{Directory}
+
+abbrev pub empty : Directory
+empty = record { hosts = []; services = []; host_groups = []; service_groups = []; contacts = []; contact_groups = []; periods = []; commands = [] }
+
+-- the names of a kind
+abbrev pub known : Directory → Kind → List Name
+known directory Host = directory.hosts
+known directory Service = directory.services
+known directory HostGroup = directory.host_groups
+known directory ServiceGroup = directory.service_groups
+known directory Contact = directory.contacts
+known directory ContactGroup = directory.contact_groups
+known directory Period = directory.periods
+known directory Command = directory.commands
+
+abbrev pub with_name : Directory → Kind → Name → Directory
+with_name directory Host name = record directory { hosts = directory.hosts ++ name ∷ [] }
+with_name directory Service name = record directory { services = directory.services ++ name ∷ [] }
+with_name directory HostGroup name = record directory { host_groups = directory.host_groups ++ name ∷ [] }
+with_name directory ServiceGroup name = record directory { service_groups = directory.service_groups ++ name ∷ [] }
+with_name directory Contact name = record directory { contacts = directory.contacts ++ name ∷ [] }
+with_name directory ContactGroup name = record directory { contact_groups = directory.contact_groups ++ name ∷ [] }
+with_name directory Period name = record directory { periods = directory.periods ++ name ∷ [] }
+with_name directory Command name = record directory { commands = directory.commands ++ name ∷ [] }
+
+-- the names that the objects of blocks have
+abbrev pub directory_of : List Block → Directory
+directory_of blocks = record {
+  hosts = names_of blocks Host;
+  services = names_of blocks Service;
+  host_groups = names_of blocks HostGroup;
+  service_groups = names_of blocks ServiceGroup;
+  contacts = names_of blocks Contact;
+  contact_groups = names_of blocks ContactGroup;
+  periods = names_of blocks Period;
+  commands = names_of blocks Command;
+}

@@ -1,0 +1,9 @@
+pub mod Blocks
+pub mod Checks
+pub mod Directories
+pub mod Faults
+pub mod Kinds
+pub mod Names
+pub mod Objects
+pub mod Reading
+pub mod Views

@@ -1,0 +1,80 @@
+-- The names of objects, and the places where they are found.
+use Rattle.std.specs.Prelude.{ℕ, ◌==◌, ◌&&◌, Bool, not, Option, Some, None, List, [], ◌∷◌, length, map, filter, bytes_eq}
+use Rattle.std.specs.List.{position, slice_split}
+use Rattle.std.specs.Option.{option_map, option_map_or}
+use Rattle.lq_text.specs.Blanks.{trimmed}
+use Rattle.lq_records.specs.Clean.{cleaned}
+use Rattle.lq_objects.specs.Blocks.{Line, directive}
+use Rattle.lq_objects.specs.Kinds.{name_directive, second_directive, kind_word}
+use Rattle.lq_objects.specs.declared.kind.Kind.{Kind}
+use Rattle.lq_objects.specs.declared.kind.Reference.{Reference}
+use Rattle.lq_objects.specs.declared.kind.Reference.TheVariants.{Parents, ServiceHost, Contacts, ContactGroups, MemberHosts, MemberServices, MemberContacts}
+
+-- ---- names
+
+-- A name. A service's has two parts: its host's name and its description. Any other has an empty second part.
+pub record Name : Type 0 where
+  pub first : List ℕ
+  pub second : List ℕ
+
+-- a name of one part
+abbrev pub single : List ℕ → Name
+single text = record { first = text; second = [] }
+
+abbrev pub is_same : Name → Name → Bool
+is_same a b = bytes_eq a.first b.first && bytes_eq a.second b.second
+
+-- the text of a directive, its bytes that aren't UTF-8 replaced; another text where it is absent
+abbrev pub text_or : List ℕ → List ℕ → List Line → List ℕ
+text_or absent name lines = option_map_or cleaned (directive name lines) absent
+
+-- the name that a block's directives give its object, an absent one being empty
+abbrev pub name_of : Kind → List Line → Name
+name_of kind lines = record {
+  first = text_or [] (name_directive kind) lines;
+  second = option_map_or (λ name. text_or [] name lines) (second_directive kind) [];
+}
+
+-- a block of a known kind
+pub record Block : Type 0 where
+  pub kind : Kind
+  pub lines : List Line
+
+abbrev pub is_of : Kind → Block → Bool
+is_of kind block = bytes_eq (kind_word block.kind) (kind_word kind)
+
+-- the names of the objects of a kind, in the order of their blocks
+abbrev pub names_of : List Block → Kind → List Name
+names_of blocks kind = map (λ block. name_of kind block.lines) (filter (is_of kind) blocks)
+
+-- ---- lists of names
+
+-- what stands between commas, without blanks round it; empty elements are dropped
+abbrev pub pieces_of : List ℕ → List (List ℕ)
+pieces_of value = filter (λ piece. not (length piece == 0)) (map trimmed (slice_split (λ byte. byte == 44) value))
+
+-- the same as texts, their bytes that aren't UTF-8 replaced
+abbrev pub elements : List ℕ → List (List ℕ)
+elements value = map cleaned (pieces_of value)
+
+-- elements in pairs, None where their number is odd
+abbrev pub pairs_of : List (List ℕ) → Option (List Name)
+pairs_of [] = Some []
+pairs_of (only ∷ []) = None
+pairs_of (first ∷ second ∷ rest) = option_map (λ names. record { first = first; second = second } ∷ names) (pairs_of rest)
+
+-- the names in the value of a directive
+abbrev pub named_in : Reference → List ℕ → Option (List Name)
+named_in Parents value = Some (map single (elements value))
+named_in ServiceHost value = Some (single (cleaned value) ∷ [])
+named_in Contacts value = Some (map single (elements value))
+named_in ContactGroups value = Some (map single (elements value))
+named_in MemberHosts value = Some (map single (elements value))
+named_in MemberServices value = pairs_of (elements value)
+named_in MemberContacts value = Some (map single (elements value))
+
+-- ---- places
+
+-- where a name first stands among others
+abbrev pub place_of : List Name → Name → Option ℕ
+place_of names name = position (is_same name) names

@@ -1,0 +1,177 @@
+ghost use Rattle.std.specs.Prelude.{◌≡◌, ℕ, None, IfOk, OnOk, option_map};
+ghost use Rattle.std.specs.Option.{option_copied, option_to_list};
+ghost use Rattle.lq_objects.specs.Checks.{Checks, with_blocks};
+ghost use Rattle.lq_objects.specs.Directories.{known, with_name};
+ghost use Rattle.lq_objects.specs.Faults.{block_of, directive_fault, fault_if, first_of, has_separator, inner_fault, is_bad_name, known_block, lacks_name, name_fault, opened_fault, part_fault};
+ghost use Rattle.lq_objects.specs.Names.{place_of};
+ghost use Rattle.lq_objects.specs.Names.{name_of as named};
+
+use crate::block::Block;
+use crate::directive::{is_bad_number, is_template};
+use crate::directory::Directory;
+use crate::fault::{Fault, ObjectsErr, ObjectsWhat};
+use crate::kind::Kind;
+use crate::line::Line;
+use crate::name::{Name, name_of};
+use crate::name_index::NameIndex;
+use crate::part::Part;
+use std::alloc::Global;
+
+/// The block that a part is, where its kind is known, or the first fault in the part. The name of
+/// the block's object goes into the directory.
+pub(crate) fn read_part<'p, 'a>(
+    alloc: Global,
+    directory: &mut Directory,
+    part: &Part<'p, 'a>,
+) -> Result<Option<Block<'p, 'a>>, ObjectsErr>
+    ensures fault { Checks result (part_fault (known directory.old) part.now.lines.now (option_copied part.now.closing)) }
+    ensures block { IfOk result (λ block. option_to_list block ≡ block_of part.now.lines.now) }
+    ensures directory { IfOk result (λ block. directory.new ≡ with_blocks directory.old (option_to_list block)) }
+{
+    let Some((opening, lines)) = part.lines.split_first() else {
+        return match part.closing {
+            Some(closing) => Err(closing.fault(ObjectsWhat::Stray)),
+            None => Ok(None),
+        };
+    };
+    let Some(word) = opening.opened_word() else {
+        return Err(opening.fault(ObjectsWhat::Stray));
+    };
+    read_opened(
+        alloc,
+        directory,
+        opening.number(),
+        Kind::named(word),
+        lines,
+        part.closing,
+    )
+}
+
+/// The block that the line `opening` opens, where its kind is known, or the first fault in it.
+fn read_opened<'p, 'a>(
+    alloc: Global,
+    directory: &mut Directory,
+    opening: u64,
+    kind: Option<Kind>,
+    lines: &'p [Line<'a>],
+    closing: Option<&Line<'a>>,
+) -> Result<Option<Block<'p, 'a>>, ObjectsErr>
+    ensures fault { Checks result (opened_fault (known directory.old) opening kind lines.now (option_copied closing.entry)) }
+    ensures block { IfOk result (λ block. option_to_list block ≡ known_block kind lines.now) }
+    ensures directory { IfOk result (λ block. directory.new ≡ with_blocks directory.old (option_to_list block)) }
+{
+    if let Some(fault) = lines_fault(opening, kind, lines) {
+        return Err(fault.error());
+    }
+    let Some(closing) = closing else {
+        return Err(ObjectsErr::At {
+            line: opening,
+            what: ObjectsWhat::Unclosed,
+        });
+    };
+    let Some(kind) = kind else {
+        return Ok(None);
+    };
+    let block = read_block(alloc, directory, kind, lines, closing)?;
+    Ok(Some(block))
+}
+
+/// A block that is closed, or the fault of its object's name.
+fn read_block<'p, 'a>(
+    alloc: Global,
+    directory: &mut Directory,
+    kind: Kind,
+    lines: &'p [Line<'a>],
+    closing: &Line<'a>,
+) -> Result<Block<'p, 'a>, ObjectsErr>
+    ensures fault { Checks result (name_fault kind (known directory.old kind) (named kind lines.now) closing.now.number) }
+    ensures block { IfOk result (λ block. block ≡ record { kind = kind; lines = lines.now }) }
+    ensures directory { OnOk result (directory.new ≡ with_name directory.old kind (named kind lines.now)) }
+{
+    let name = name_of(alloc, kind, lines).map_err(ObjectsErr::Memory)?;
+    if let Some(what) = name_fault(kind, directory.of(kind), &name) {
+        return Err(closing.fault(what));
+    }
+    directory.push(kind, name).map_err(ObjectsErr::Memory)?;
+    Ok(Block::new(kind, lines))
+}
+
+/// The first fault of the lines in a block.
+fn lines_fault(opening: u64, kind: Option<Kind>, lines: &[Line<'_>]) -> Option<Fault>
+    ensures { result ≡ first_of (inner_fault opening kind) lines.now }
+{
+    for line in lines {
+        if let Some(fault) = inner_fault(opening, kind, line) {
+            return Some(fault);
+        }
+    }
+    None
+}
+
+/// The fault of a line in a block that the line `opening` opens.
+fn inner_fault(opening: u64, kind: Option<Kind>, line: &Line<'_>) -> Option<Fault>
+    ensures { result ≡ inner_fault opening kind line.now }
+{
+    if line.opened_word().is_some() {
+        return Some(Fault {
+            line: opening,
+            what: ObjectsWhat::Unclosed,
+        });
+    }
+    directive_fault(kind?, line)
+}
+
+/// The fault of a directive in a block of a kind.
+fn directive_fault(kind: Kind, line: &Line<'_>) -> Option<Fault>
+    ensures { result ≡ directive_fault kind line.now }
+{
+    let what = if is_template(line.text()) {
+        ObjectsWhat::NotFlattened
+    } else if is_bad_number(kind, line.text()) {
+        ObjectsWhat::BadNumber
+    } else {
+        return None;
+    };
+    Some(Fault {
+        line: line.number(),
+        what,
+    })
+}
+
+/// What is wrong with an object's name, after the earlier ones of its kind.
+fn name_fault(kind: Kind, earlier: &NameIndex, name: &Name) -> Option<ObjectsWhat>
+    ensures value { (line : ℕ) → option_map (λ what. record { line = line; what = what }) result ≡ name_fault kind earlier.now name.now line }
+    ensures absent { result ≡ None → place_of earlier.now name.now ≡ None }
+{
+    if lacks_name(kind, name) {
+        Some(ObjectsWhat::NoName)
+    } else if is_bad_name(kind, name) {
+        Some(ObjectsWhat::BadName)
+    } else if earlier.contains(name) {
+        Some(ObjectsWhat::Twice)
+    } else if earlier.len() >= kind.limit() {
+        Some(ObjectsWhat::TooMany)
+    } else {
+        None
+    }
+}
+
+/// Whether a part of an object's name is absent or empty.
+fn lacks_name(kind: Kind, name: &Name) -> bool
+    ensures { result ≡ lacks_name kind name.now }
+{
+    name.first().is_empty() || (kind.second_directive().is_some() && name.second().is_empty())
+}
+
+/// Whether a name of a kind whose names are without `;` has one.
+fn is_bad_name(kind: Kind, name: &Name) -> bool
+    ensures { result ≡ is_bad_name kind name.now }
+{
+    kind.has_numbers() && (has_separator(name.first()) || has_separator(name.second()))
+}
+
+fn has_separator(text: &str) -> bool
+    ensures { result ≡ has_separator text.now }
+{
+    text.as_bytes().iter().any(|byte| *byte == b';')
+}

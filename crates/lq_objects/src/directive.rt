@@ -1,0 +1,89 @@
+ghost use Rattle.std.specs.Prelude.{◌≡◌, ◌<◌, ◌≤◌, drop, length, nat_lt, take};
+ghost use Rattle.std.specs.List.{prefix_len, starts_with, list_all};
+ghost use Rattle.std.specs.Char.{is_ascii_digit};
+ghost use Rattle.std.specs.Option.{option_copied};
+ghost use Rattle.lq_objects.specs.Blocks.{directive, is_named, value_of};
+ghost use Rattle.lq_objects.specs.Faults.{is_bad, is_bad_number, is_template, number_in};
+ghost use Rattle.lq_objects.specs.Objects.{is_variable, variable_name};
+
+use crate::kind::Kind;
+use crate::line::Line;
+use lq_text::{is_blank, read_u64, trim};
+
+/// Whether a line is the directive with a name.
+pub(crate) fn is_named(name: &[u8], text: &[u8]) -> bool
+    ensures { result ≡ is_named name.now text.now }
+{
+    text.starts_with(name) && (text.len() == name.len() || is_blank(text[name.len()]))
+}
+
+/// The value of a directive's line.
+pub(crate) fn value_of<'a>(name: &[u8], text: &'a [u8]) -> &'a [u8]
+    ensures { result.now ≡ value_of name.now text.now }
+{
+    trim(&text[name.len().min(text.len())..])
+}
+
+/// The value of the directive with a name. Of several the last decides.
+pub(crate) fn directive<'a>(name: &[u8], lines: &[Line<'a>]) -> Option<&'a [u8]>
+    ensures { option_copied result ≡ directive name.now lines.now }
+{
+    lines
+        .iter()
+        .rev()
+        .find(|line| is_named(name, line.text()))
+        .map(|line| value_of(name, line.text()))
+}
+
+/// The number that a value says, where it is in a range.
+pub(crate) fn number_in(least: u32, most: u32, value: &[u8]) -> Option<u32>
+    ensures { result ≡ number_in least most value.now }
+{
+    match read_u64(value) {
+        Some(number) if u64::from(least) <= number && number <= u64::from(most) => {
+            Some(number as u32)
+        }
+        _ => None,
+    }
+}
+
+/// Whether a line is a directive with a number that isn't in its range.
+fn is_bad(least: u32, most: u32, name: &[u8], text: &[u8]) -> bool
+    ensures { result ≡ is_bad least most name.now text.now }
+{
+    is_named(name, text) && number_in(least, most, value_of(name, text)).is_none()
+}
+
+/// Whether a line in a block of a kind has a number that isn't in its range.
+pub(crate) fn is_bad_number(kind: Kind, text: &[u8]) -> bool
+    ensures { result ≡ is_bad_number kind text.now }
+{
+    kind.has_numbers()
+        && (is_bad(1, 1_000_000, b"max_check_attempts", text)
+            || is_bad(0, 1, b"notifications_enabled", text))
+}
+
+/// Whether a line stands in files that aren't flattened alone.
+pub(crate) fn is_template(text: &[u8]) -> bool
+    ensures { result ≡ is_template text.now }
+{
+    is_named(b"use", text) || is_named(b"register", text)
+}
+
+/// Whether a line is a custom variable.
+pub(crate) fn is_variable(text: &[u8]) -> bool
+    ensures { result ≡ is_variable text.now }
+{
+    text.starts_with(b"_".as_slice())
+}
+
+/// The name of a custom variable.
+pub(crate) fn variable_name(text: &[u8]) -> &[u8]
+    ensures { result.now ≡ variable_name text.now }
+{
+    let mut end = 0;
+    'name: while end < text.len() && !is_blank(text[end]) {
+        end += 1;
+    }
+    &text[..end]
+}

@@ -1,0 +1,72 @@
+ghost use Rattle.std.specs.Prelude.{◌≡◌, None, OnOk, length, []};
+ghost use Rattle.lq_objects.specs.Directories.{empty, known, with_name};
+ghost use Rattle.lq_objects.specs.Names.{place_of};
+
+use crate::kind::Kind;
+use crate::name::Name;
+use crate::name_index::NameIndex;
+use std::alloc::{AllocError, Global};
+
+/// The names of the objects so far, those of each kind in order.
+#[derive(Drop)]
+pub(crate) struct Directory {
+    hosts: NameIndex,
+    services: NameIndex,
+    host_groups: NameIndex,
+    service_groups: NameIndex,
+    contacts: NameIndex,
+    contact_groups: NameIndex,
+    periods: NameIndex,
+    commands: NameIndex,
+}
+
+impl Directory {
+    /// No names. It takes no memory.
+    pub(crate) fn new(alloc: Global) -> Self
+        ensures { result ≡ empty }
+    {
+        Directory {
+            hosts: NameIndex::new(alloc),
+            services: NameIndex::new(alloc),
+            host_groups: NameIndex::new(alloc),
+            service_groups: NameIndex::new(alloc),
+            contacts: NameIndex::new(alloc),
+            contact_groups: NameIndex::new(alloc),
+            periods: NameIndex::new(alloc),
+            commands: NameIndex::new(alloc),
+        }
+    }
+
+    /// The names of a kind.
+    pub(crate) fn of(&self, kind: Kind) -> &NameIndex
+        ensures { result.now ≡ known self.now kind }
+    {
+        match kind {
+            Kind::Host => &self.hosts,
+            Kind::Service => &self.services,
+            Kind::HostGroup => &self.host_groups,
+            Kind::ServiceGroup => &self.service_groups,
+            Kind::Contact => &self.contacts,
+            Kind::ContactGroup => &self.contact_groups,
+            Kind::Period => &self.periods,
+            Kind::Command => &self.commands,
+        }
+    }
+
+    /// Adds a name that isn't there at the end of its kind.
+    pub(crate) fn push(&mut self, kind: Kind, name: Name) -> Result<(), AllocError>
+        requires { place_of (known self.old kind) name ≡ None }
+        ensures { OnOk result (self.new ≡ with_name self.old kind name) }
+    {
+        match kind {
+            Kind::Host => self.hosts.push(name),
+            Kind::Service => self.services.push(name),
+            Kind::HostGroup => self.host_groups.push(name),
+            Kind::ServiceGroup => self.service_groups.push(name),
+            Kind::Contact => self.contacts.push(name),
+            Kind::ContactGroup => self.contact_groups.push(name),
+            Kind::Period => self.periods.push(name),
+            Kind::Command => self.commands.push(name),
+        }
+    }
+}

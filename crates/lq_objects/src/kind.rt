@@ -1,0 +1,183 @@
+ghost use Rattle.std.specs.Prelude.{◌≡◌, option_map};
+ghost use Rattle.std.specs.Option.{option_copied};
+ghost use Rattle.lq_objects.specs.Faults.{has_numbers};
+ghost use Rattle.lq_objects.specs.Kinds.{kind_named, limit, name_directive, reference_directive, references, second_directive, target};
+
+/// A kind of object that a block may be about.
+#[derive(Clone, Copy, Debug, PartialEq, Eq)]
+pub(crate) enum Kind {
+    Host,
+    Service,
+    HostGroup,
+    ServiceGroup,
+    Contact,
+    ContactGroup,
+    Period,
+    Command,
+}
+
+impl Kind {
+    /// The kind that the word behind `define` names.
+    pub(crate) fn named(word: &[u8]) -> Option<Self>
+        ensures { result ≡ kind_named word.now }
+    {
+        if word == b"host".as_slice() {
+            Some(Kind::Host)
+        } else if word == b"service".as_slice() {
+            Some(Kind::Service)
+        } else if word == b"hostgroup".as_slice() {
+            Some(Kind::HostGroup)
+        } else if word == b"servicegroup".as_slice() {
+            Some(Kind::ServiceGroup)
+        } else if word == b"contact".as_slice() {
+            Some(Kind::Contact)
+        } else if word == b"contactgroup".as_slice() {
+            Some(Kind::ContactGroup)
+        } else if word == b"timeperiod".as_slice() {
+            Some(Kind::Period)
+        } else if word == b"command".as_slice() {
+            Some(Kind::Command)
+        } else {
+            None
+        }
+    }
+
+    /// How many objects of the kind there may be.
+    pub(crate) fn limit(self) -> usize
+        ensures { result ≡ limit self }
+    {
+        match self {
+            Kind::Host | Kind::Contact | Kind::Command => 10_000,
+            Kind::Service => 60_000,
+            Kind::HostGroup | Kind::ServiceGroup | Kind::ContactGroup | Kind::Period => 1_000,
+        }
+    }
+
+    /// Whether its objects have numbers, and names without `;`: those that are checked.
+    pub(crate) fn has_numbers(self) -> bool
+        ensures { result ≡ has_numbers self }
+    {
+        match self {
+            Kind::Host | Kind::Service => true,
+            Kind::HostGroup
+            | Kind::ServiceGroup
+            | Kind::Contact
+            | Kind::ContactGroup
+            | Kind::Period
+            | Kind::Command => false,
+        }
+    }
+
+    /// The directive with an object's name.
+    pub(crate) fn name_directive(self) -> &'static [u8]
+        ensures { result.now ≡ name_directive self }
+    {
+        match self {
+            Kind::Host | Kind::Service => b"host_name".as_slice(),
+            Kind::HostGroup => b"hostgroup_name".as_slice(),
+            Kind::ServiceGroup => b"servicegroup_name".as_slice(),
+            Kind::Contact => b"contact_name".as_slice(),
+            Kind::ContactGroup => b"contactgroup_name".as_slice(),
+            Kind::Period => b"timeperiod_name".as_slice(),
+            Kind::Command => b"command_name".as_slice(),
+        }
+    }
+
+    /// The directive with the second part of an object's name, where it has one.
+    pub(crate) fn second_directive(self) -> Option<&'static [u8]>
+        ensures { option_copied result ≡ second_directive self }
+    {
+        match self {
+            Kind::Service => Some(b"service_description".as_slice()),
+            Kind::Host
+            | Kind::HostGroup
+            | Kind::ServiceGroup
+            | Kind::Contact
+            | Kind::ContactGroup
+            | Kind::Period
+            | Kind::Command => None,
+        }
+    }
+
+    /// The directives of its blocks that name other objects.
+    pub(crate) fn references(self) -> &'static [Reference]
+        ensures { result.now ≡ references self }
+    {
+        match self {
+            Kind::Host => HOST_REFERENCES.as_slice(),
+            Kind::Service => SERVICE_REFERENCES.as_slice(),
+            Kind::HostGroup => HOST_GROUP_REFERENCES.as_slice(),
+            Kind::ServiceGroup => SERVICE_GROUP_REFERENCES.as_slice(),
+            Kind::ContactGroup => CONTACT_GROUP_REFERENCES.as_slice(),
+            Kind::Contact | Kind::Period | Kind::Command => NO_REFERENCES.as_slice(),
+        }
+    }
+}
+
+const HOST_REFERENCES: [Reference; 3] = [
+    Reference::Parents,
+    Reference::Contacts,
+    Reference::ContactGroups,
+];
+
+const SERVICE_REFERENCES: [Reference; 3] = [
+    Reference::ServiceHost,
+    Reference::Contacts,
+    Reference::ContactGroups,
+];
+
+const HOST_GROUP_REFERENCES: [Reference; 1] = [Reference::MemberHosts];
+
+const SERVICE_GROUP_REFERENCES: [Reference; 1] = [Reference::MemberServices];
+
+const CONTACT_GROUP_REFERENCES: [Reference; 1] = [Reference::MemberContacts];
+
+const NO_REFERENCES: [Reference; 0] = [];
+
+/// A directive that names other objects.
+#[derive(Clone, Copy, Debug, PartialEq, Eq)]
+pub(crate) enum Reference {
+    /// A host's parents.
+    Parents,
+    /// A service's host.
+    ServiceHost,
+    /// Contacts of a host or a service.
+    Contacts,
+    /// Contact groups of a host or a service.
+    ContactGroups,
+    /// The hosts of a host group.
+    MemberHosts,
+    /// The services of a service group.
+    MemberServices,
+    /// The contacts of a contact group.
+    MemberContacts,
+}
+
+impl Reference {
+    /// The directive's name.
+    pub(crate) fn directive(self) -> &'static [u8]
+        ensures { result.now ≡ reference_directive self }
+    {
+        match self {
+            Reference::Parents => b"parents".as_slice(),
+            Reference::ServiceHost => b"host_name".as_slice(),
+            Reference::Contacts => b"contacts".as_slice(),
+            Reference::ContactGroups => b"contact_groups".as_slice(),
+            Reference::MemberHosts | Reference::MemberServices | Reference::MemberContacts => {
+                b"members".as_slice()
+            }
+        }
+    }
+
+    /// The kind of the objects that it names.
+    pub(crate) fn target(self) -> Kind
+        ensures { result ≡ target self }
+    {
+        match self {
+            Reference::Parents | Reference::ServiceHost | Reference::MemberHosts => Kind::Host,
+            Reference::MemberServices => Kind::Service,
+            Reference::Contacts | Reference::MemberContacts => Kind::Contact,
+            Reference::ContactGroups => Kind::ContactGroup,
+        }
+    }
+}

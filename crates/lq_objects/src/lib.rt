@@ -1,0 +1,24 @@
+//! Nagios Core's flattened object file: the base that it says, or the first fault in it.
+#![tactic(auto)]
+
+mod block;
+mod check;
+mod directive;
+mod directory;
+mod fault;
+mod kind;
+mod line;
+mod name;
+mod name_index;
+mod names;
+mod objects;
+mod part;
+mod places;
+mod read;
+#[cfg(test)]
+mod tests;
+mod unknown;
+mod variables;
+
+pub use fault::{Fault, ObjectsErr, ObjectsWhat};
+pub use read::read_objects;

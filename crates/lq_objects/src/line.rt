@@ -1,0 +1,134 @@
+ghost use Rattle.std.specs.Prelude.{◌≡◌, ℕ, IsTrue, ◌∷◌, ◌<◌, ◌≤◌, ◌&&◌, IfOk, IfSome, IsNone, [], length, option_map, reverse, find, slice_index, bytes_eq, codes};
+ghost use Rattle.std.specs.List.{list_any, prefix_len};
+ghost use Rattle.std.specs.Option.{option_copied};
+ghost use Rattle.lq_text.specs.Blanks.{is_blank};
+ghost use Rattle.lq_objects.specs.Blocks.{directive, is_closing, is_named, is_opening_text, is_telling, one_word, opened_word, telling_lines, value_of};
+ghost use Rattle.lq_objects.specs.declared.fault.ObjectsErr.TheVariants.{At};
+
+use crate::fault::{ObjectsErr, ObjectsWhat};
+use lq_text::{is_blank, next_line, trim};
+use std::alloc::{AllocError, Global};
+use std::marker::Model;
+
+/// A line that says something: its number in the file, from 1, and its text without the blanks at
+/// both ends.
+#[derive(Debug, Drop)]
+pub(crate) struct Line<'a> {
+    number: u64,
+    text: &'a [u8],
+}
+
+impl<'a> Model for Line<'a> {
+    ghost use Rattle.lq_objects.specs.Blocks.{Line};
+
+    ghost Value = { Line };
+
+    ghost view = { λ line. record { number = line.number; text = line.text.now } };
+}
+
+impl<'a> Line<'a> {
+    pub(crate) fn new(number: u64, text: &'a [u8]) -> Self
+        ensures { result ≡ record { number = number; text = text.now } }
+    {
+        Line { number, text }
+    }
+
+    pub(crate) fn number(&self) -> u64
+        ensures { result ≡ self.now.number }
+    {
+        self.number
+    }
+
+    pub(crate) fn text(&self) -> &'a [u8]
+        ensures { result.now ≡ self.now.text }
+    {
+        self.text
+    }
+
+    /// A fault at the line, as an error.
+    pub(crate) fn fault(&self, what: ObjectsWhat) -> ObjectsErr
+        ensures { result ≡ At self.now.number what }
+    {
+        ObjectsErr::At {
+            line: self.number,
+            what,
+        }
+    }
+
+    /// Whether the line closes a block.
+    pub(crate) fn is_closing(&self) -> bool
+        ensures { result ≡ is_closing self.now }
+    {
+        self.text == b"}".as_slice()
+    }
+
+    /// The word behind `define`, where the line opens a block.
+    pub(crate) fn opened_word(&self) -> Option<&'a [u8]>
+        ensures { option_copied result ≡ opened_word self.now.text }
+    {
+        opened_word(self.text)
+    }
+}
+
+/// The lines of a file that say something.
+pub(crate) fn telling_lines(alloc: Global, b: &[u8]) -> Result<Vec<Line<'_>>, AllocError>
+    ensures { IfOk result (λ lines. lines.items ≡ telling_lines b.now) }
+{
+    let mut lines = Vec::new(alloc);
+    let mut at = 0;
+    let mut number = 0;
+    'lines: while let Some((end, next)) = next_line(b, at) {
+        number += 1;
+        let text = trim(&b[at..end]);
+        if is_telling(text) {
+            lines.push(Line::new(number, text))?;
+        }
+        at = next;
+    }
+    Ok(lines)
+}
+
+/// Whether a text says something: it isn't empty and doesn't begin with `#`.
+fn is_telling(text: &[u8]) -> bool
+    ensures { (number : ℕ) → result ≡ is_telling (record { number = number; text = text.now }) }
+{
+    !text.is_empty() && text[0] != b'#'
+}
+
+fn opened_word(text: &[u8]) -> Option<&[u8]>
+    ensures { option_copied result ≡ opened_word text.now }
+{
+    if is_opening(text) {
+        single_word(&text[6..text.len() - 1])
+    } else {
+        None
+    }
+}
+
+fn is_opening(text: &[u8]) -> bool
+    ensures value { result ≡ is_opening_text text.now }
+    ensures long { IsTrue result → 6 < length text.now }
+{
+    text.len() > 6
+        && text.starts_with(b"define".as_slice())
+        && is_blank(text[6])
+        && text[text.len() - 1] == b'{'
+}
+
+/// The one word of a text, where it has exactly one.
+fn single_word(text: &[u8]) -> Option<&[u8]>
+    ensures { option_copied result ≡ one_word text.now }
+{
+    let word = trim(text);
+    if word.is_empty() || has_blank(word) {
+        None
+    } else {
+        Some(word)
+    }
+}
+
+fn has_blank(text: &[u8]) -> bool
+    ensures { result ≡ list_any is_blank text.now }
+{
+    text.iter().any(|byte| is_blank(*byte))
+}

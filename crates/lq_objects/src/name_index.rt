@@ -1,0 +1,80 @@
+ghost use Rattle.std.specs.Prelude.{◌≡◌, ◌++◌, ◌∷◌, ◌<◌, ◌≤◌, [], length, false, None, OnOk, OnErr, IfSome};
+ghost use Rattle.std.specs.List.{list_any};
+ghost use Rattle.lq_objects.specs.Names.{is_same, place_of};
+
+use crate::name::Name;
+use indexmap::IndexSet;
+use std::alloc::{AllocError, Global};
+use std::marker::Model;
+
+/// Names of one kind, in order, with the place of each.
+#[derive(Drop)]
+pub(crate) struct NameIndex {
+    names: IndexSet<(String, String)>,
+}
+
+impl Model for NameIndex {
+    ghost use Rattle.std.specs.Prelude.{List, ◌<◌, ◌^◌, length, map, string_bytes};
+    ghost use Rattle.lq_objects.specs.Names.{Name};
+
+    ghost Value = { List Name };
+
+    ghost view = { λ index. map (λ key. record { first = string_bytes key.0; second = string_bytes key.1 }) index.names.keys };
+
+    ghost invariant = { λ index. length index.names.keys < 2 ^ 32 };
+}
+
+/// The most names that an index holds, far more than there is memory for.
+const MOST_NAMES: usize = 0xFFFF_FFFF;
+
+impl NameIndex {
+    /// No names. It takes no memory.
+    pub(crate) fn new(alloc: Global) -> Self
+        ensures { result ≡ [] }
+    {
+        NameIndex {
+            names: IndexSet::new(alloc),
+        }
+    }
+
+    /// How many names there are.
+    pub(crate) fn len(&self) -> usize
+        ensures { result ≡ length self.now }
+    {
+        self.names.len()
+    }
+
+    /// The place of a name.
+    pub(crate) fn find(&self, name: &Name) -> Option<u32>
+        ensures value { result ≡ place_of self.now name.now }
+        ensures within { IfSome result (λ place. place < length self.now) }
+    {
+        match self.names.get_index_of(name.parts()) {
+            Some(place) => Some(place as u32),
+            None => None,
+        }
+    }
+
+    /// Whether a name is there.
+    pub(crate) fn contains(&self, name: &Name) -> bool
+        ensures value { result ≡ list_any (is_same name.now) self.now }
+        ensures absent { result ≡ false → place_of self.now name.now ≡ None }
+    {
+        self.find(name).is_some()
+    }
+
+    /// Adds a name that isn't there at the end.
+    pub(crate) fn push(&mut self, name: Name) -> Result<(), AllocError>
+        requires { place_of self.old name ≡ None }
+        ensures ok { OnOk result (self.new ≡ self.old ++ name ∷ []) }
+        ensures err { OnErr result (self.new ≡ self.old) }
+    {
+        if self.names.len() >= MOST_NAMES {
+            return Err(AllocError);
+        }
+        let Ok(_) = self.names.insert(name.into_parts()) else {
+            return Err(AllocError);
+        };
+        Ok(())
+    }
+}

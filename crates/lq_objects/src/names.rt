@@ -1,0 +1,82 @@
+ghost use Rattle.std.specs.Prelude.{◌≡◌, ◌==◌, ◌∷◌, [], IfOk, filter, length, map, not};
+ghost use Rattle.std.specs.List.{slice_split};
+ghost use Rattle.std.specs.Option.{option_map};
+ghost use Rattle.lq_text.specs.Blanks.{trimmed};
+ghost use Rattle.lq_records.specs.Clean.{cleaned};
+ghost use Rattle.lq_objects.specs.Names.{elements, named_in, pairs_of, pieces_of, single};
+ghost use Rattle.lq_objects.specs.Views.{texts};
+
+use crate::kind::Reference;
+use crate::name::Name;
+use lq_records::clean_text;
+use lq_text::trim;
+use std::alloc::{AllocError, Global};
+
+/// The names in the value of a directive. None where a service group has an odd number of elements.
+pub(crate) fn named_in(
+    alloc: Global,
+    reference: Reference,
+    value: &[u8],
+) -> Result<Option<Vec<Name>>, AllocError>
+    ensures { IfOk result (λ names. option_map (λ list. list.items) names ≡ named_in reference value.now) }
+{
+    match reference {
+        Reference::ServiceHost => whole(alloc, value).map(Some),
+        Reference::MemberServices => pairs(alloc, &pieces(alloc, value)?),
+        Reference::Parents
+        | Reference::Contacts
+        | Reference::ContactGroups
+        | Reference::MemberHosts
+        | Reference::MemberContacts => singles(alloc, &pieces(alloc, value)?).map(Some),
+    }
+}
+
+/// What stands between commas, without blanks round it and without what is empty.
+fn pieces(alloc: Global, value: &[u8]) -> Result<Vec<&[u8]>, AllocError>
+    ensures { IfOk result (λ pieces. texts pieces.items ≡ pieces_of value.now) }
+{
+    value
+        .split(|byte| *byte == b',')
+        .map(|piece| trim(piece))
+        .filter(|piece| !piece.is_empty())
+        .collect(alloc)
+}
+
+/// A value that is one name.
+fn whole(alloc: Global, value: &[u8]) -> Result<Vec<Name>, AllocError>
+    ensures { IfOk result (λ names. names.items ≡ single (cleaned value.now) ∷ []) }
+{
+    let mut names = Vec::new(alloc);
+    names.push(Name::single(alloc, clean_text(alloc, value)?))?;
+    Ok(names)
+}
+
+/// Names of one part.
+fn singles(alloc: Global, pieces: &[&[u8]]) -> Result<Vec<Name>, AllocError>
+    ensures { IfOk result (λ names. names.items ≡ map single (map cleaned (texts pieces.now))) }
+{
+    let mut names = Vec::new(alloc);
+    for piece in pieces {
+        names.push(Name::single(alloc, clean_text(alloc, piece)?))?;
+    }
+    Ok(names)
+}
+
+/// Names of two parts. None where the last one lacks its second.
+fn pairs(alloc: Global, pieces: &[&[u8]]) -> Result<Option<Vec<Name>>, AllocError>
+    ensures { IfOk result (λ names. option_map (λ list. list.items) names ≡ pairs_of (map cleaned (texts pieces.now))) }
+{
+    let mut names = Vec::new(alloc);
+    let mut at = 0;
+    'pairs: while at + 1 < pieces.len() {
+        let first = clean_text(alloc, pieces[at])?;
+        let second = clean_text(alloc, pieces[at + 1])?;
+        names.push(Name::new(first, second))?;
+        at += 2;
+    }
+    if at < pieces.len() {
+        Ok(None)
+    } else {
+        Ok(Some(names))
+    }
+}

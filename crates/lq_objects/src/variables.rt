@@ -1,0 +1,61 @@
+ghost use Rattle.std.specs.Prelude.{◌≡◌, IfOk, OnOk, bytes_eq};
+ghost use Rattle.indexmap.specs.IndexMap.{insert_entry};
+ghost use Rattle.lq_objects.specs.Objects.{custom_variables, variable_of};
+ghost use Rattle.lq_objects.specs.Views.{entry_texts};
+
+use crate::directive::{is_variable, value_of, variable_name};
+use crate::line::Line;
+use indexmap::IndexMap;
+use lq_records::{Items, Text, clean_text};
+use std::alloc::{AllocError, Global};
+
+/// The custom variables of a block: each name once, where it first comes, with its last value.
+pub(crate) fn custom_variables(
+    alloc: Global,
+    lines: &[Line<'_>],
+) -> Result<Items<(Text, Text)>, AllocError>
+    ensures { IfOk result (λ variables. variables ≡ custom_variables lines.now) }
+{
+    pairs(alloc, values_by_name(alloc, lines)?)
+}
+
+/// The last value of each variable, by its name.
+fn values_by_name(alloc: Global, lines: &[Line<'_>]) -> Result<IndexMap<String, Text>, AllocError>
+    ensures { IfOk result (λ values. entry_texts values.entries ≡ custom_variables lines.now) }
+{
+    let mut values = IndexMap::new(alloc);
+    for line in lines {
+        if is_variable(line.text()) {
+            put(alloc, &mut values, line)?;
+        }
+    }
+    Ok(values)
+}
+
+/// Gives a variable the value that its line says.
+fn put(
+    alloc: Global,
+    values: &mut IndexMap<String, Text>,
+    line: &Line<'_>,
+) -> Result<(), AllocError>
+    ensures { OnOk result (entry_texts values.new.entries ≡ insert_entry bytes_eq (entry_texts values.old.entries) (variable_of line.now).0 (variable_of line.now).1) }
+{
+    let name = variable_name(line.text());
+    let value = clean_text(alloc, value_of(name, line.text()))?;
+    let name = clean_text(alloc, name)?;
+    match values.insert(name.into_string(), value) {
+        Ok(_) => Ok(()),
+        Err(_) => Err(AllocError),
+    }
+}
+
+/// The entries of a map as a list, in order.
+fn pairs(alloc: Global, values: IndexMap<String, Text>) -> Result<Items<(Text, Text)>, AllocError>
+    ensures { IfOk result (λ pairs. pairs ≡ entry_texts values.entries) }
+{
+    let mut pairs = Vec::with_capacity(alloc, values.len())?;
+    for (name, value) in values {
+        pairs.push((Text::from_string(name), value))?;
+    }
+    Ok(Items::from_vec(pairs))
+}
