@@ -2,7 +2,7 @@ ghost use Rattle.std.specs.Prelude.{◌≡◌, ℕ, None, IfOk, OnOk, option_map
 ghost use Rattle.std.specs.Option.{option_copied, option_to_list};
 ghost use Rattle.lq_objects.specs.Checks.{Checks, with_blocks};
 ghost use Rattle.lq_objects.specs.Directories.{known, with_name};
-ghost use Rattle.lq_objects.specs.Faults.{block_of, directive_fault, fault_if, first_of, has_separator, inner_fault, is_bad_name, known_block, lacks_name, name_fault, opened_fault, part_fault};
+ghost use Rattle.lq_objects.specs.Faults.{block_of, directive_fault, first_of, has_separator, inner_fault, is_bad_name, known_block, lacks_name, name_fault, opened_fault, part_fault};
 ghost use Rattle.lq_objects.specs.Names.{place_of};
 ghost use Rattle.lq_objects.specs.Names.{name_of as named};
 

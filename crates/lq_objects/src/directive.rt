@@ -1,6 +1,5 @@
-ghost use Rattle.std.specs.Prelude.{◌≡◌, ◌<◌, ◌≤◌, drop, length, nat_lt, take};
-ghost use Rattle.std.specs.List.{prefix_len, starts_with, list_all};
-ghost use Rattle.std.specs.Char.{is_ascii_digit};
+ghost use Rattle.std.specs.Prelude.{◌≡◌, ◌<◌};
+ghost use Rattle.std.specs.List.{starts_with};
 ghost use Rattle.std.specs.Option.{option_copied};
 ghost use Rattle.lq_objects.specs.Blocks.{directive, is_named, value_of};
 ghost use Rattle.lq_objects.specs.Faults.{is_bad, is_bad_number, is_template, number_in};

@@ -1,4 +1,4 @@
-ghost use Rattle.std.specs.Prelude.{◌≡◌, None, OnOk, length, []};
+ghost use Rattle.std.specs.Prelude.{◌≡◌, None, OnOk};
 ghost use Rattle.lq_objects.specs.Directories.{empty, known, with_name};
 ghost use Rattle.lq_objects.specs.Names.{place_of};
 

@@ -48,11 +48,17 @@ impl ObjectsWhat {
     }
 }
 
+impl Display for ObjectsWhat {
+    fn fmt<W: Write>(&self, f: &mut Formatter<W>) -> fmt::Result {
+        f.write_str(self.text())
+    }
+}
+
 /// Why an object file gives no base.
 #[derive(Debug, Drop, Error)]
 pub enum ObjectsErr {
     /// The number of a line, from 1, and what is wrong there.
-    #[error("line {line}: {what:?}")]
+    #[error("line {line}: {what}")]
     At { line: u64, what: ObjectsWhat },
     /// Want of memory.
     #[error(transparent)]

@@ -1,8 +1,8 @@
-ghost use Rattle.std.specs.Prelude.{◌≡◌, ℕ, IsTrue, ◌∷◌, ◌<◌, ◌≤◌, ◌&&◌, IfOk, IfSome, IsNone, [], length, option_map, reverse, find, slice_index, bytes_eq, codes};
-ghost use Rattle.std.specs.List.{list_any, prefix_len};
+ghost use Rattle.std.specs.Prelude.{◌≡◌, ℕ, IsTrue, ◌<◌, ◌&&◌, IfOk, length};
+ghost use Rattle.std.specs.List.{list_any};
 ghost use Rattle.std.specs.Option.{option_copied};
 ghost use Rattle.lq_text.specs.Blanks.{is_blank};
-ghost use Rattle.lq_objects.specs.Blocks.{directive, is_closing, is_named, is_opening_text, is_telling, one_word, opened_word, telling_lines, value_of};
+ghost use Rattle.lq_objects.specs.Blocks.{is_closing, is_opening_text, is_telling, one_word, opened_word, telling_lines};
 ghost use Rattle.lq_objects.specs.declared.fault.ObjectsErr.TheVariants.{At};
 
 use crate::fault::{ObjectsErr, ObjectsWhat};

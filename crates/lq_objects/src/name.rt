@@ -1,7 +1,5 @@
-ghost use Rattle.std.specs.Prelude.{◌≡◌, ◌++◌, ◌∷◌, [], IfOk, map, bytes_eq, string_bytes};
-ghost use Rattle.std.specs.Option.{option_map, option_map_or};
-ghost use Rattle.lq_records.specs.Clean.{cleaned};
-ghost use Rattle.lq_objects.specs.Names.{elements, is_same, name_of, named_in, pairs_of, single, text_or};
+ghost use Rattle.std.specs.Prelude.{◌≡◌, IfOk, string_bytes};
+ghost use Rattle.lq_objects.specs.Names.{name_of, single, text_or};
 
 use crate::directive::directive;
 use crate::kind::{Kind, Reference};

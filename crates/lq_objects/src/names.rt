@@ -1,7 +1,5 @@
-ghost use Rattle.std.specs.Prelude.{◌≡◌, ◌==◌, ◌∷◌, [], IfOk, filter, length, map, not};
-ghost use Rattle.std.specs.List.{slice_split};
+ghost use Rattle.std.specs.Prelude.{◌≡◌, ◌==◌, ◌∷◌, [], IfOk, filter, map};
 ghost use Rattle.std.specs.Option.{option_map};
-ghost use Rattle.lq_text.specs.Blanks.{trimmed};
 ghost use Rattle.lq_records.specs.Clean.{cleaned};
 ghost use Rattle.lq_objects.specs.Names.{elements, named_in, pairs_of, pieces_of, single};
 ghost use Rattle.lq_objects.specs.Views.{texts};
