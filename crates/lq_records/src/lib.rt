@@ -1,5 +1,5 @@
-//! The data that the layers above share: texts, the objects of a base, the tables with their
-//! columns, and the values of cells.
+//! The data that the layers above share: texts, the objects of a base, log entries, external
+//! commands, the tables with their columns, and the values of cells.
 #![tactic(auto)]
 
 mod base;
@@ -7,12 +7,14 @@ mod clean;
 mod columns;
 mod ids;
 mod items;
+mod log_entry;
 mod refusal;
 mod schema;
 mod status;
 #[cfg(test)]
 mod tests;
 mod text;
+mod update;
 mod value;
 
 pub use base::{
@@ -25,10 +27,12 @@ pub use ids::{
     CommandId, ContactGroupId, ContactId, HostGroupId, HostId, PeriodId, ServiceGroupId, ServiceId,
 };
 pub use items::Items;
+pub use log_entry::{Kind, LogEntry};
 pub use refusal::Refusal;
 pub use schema::{column, column_at, column_count, column_name, table};
 pub use status::{Comment, Downtime, Object, Status};
 pub use text::Text;
+pub use update::{Act, Update};
 pub use value::Val;
 
 /// Want of memory.

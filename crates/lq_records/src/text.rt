@@ -1,4 +1,4 @@
-ghost use Rattle.std.specs.Prelude.{◌≡◌, ℕ, List, IfOk, string_bytes};
+ghost use Rattle.std.specs.Prelude.{◌≡◌, ℕ, List, [], IfOk, string_bytes};
 
 use crate::Memory;
 use std::alloc::Global;
@@ -17,6 +17,15 @@ impl Model for Text {
 }
 
 impl Text {
+    /// The empty text. It takes no memory.
+    pub fn empty(alloc: Global) -> Self
+        ensures { result ≡ [] }
+    {
+        Text {
+            inner: String::new(alloc),
+        }
+    }
+
     /// A copy of a text. The only error is want of memory.
     pub fn new(alloc: Global, text: &str) -> Result<Self, Memory>
         ensures { IfOk result (λ copy. copy ≡ text.now) }

@@ -1,5 +1,5 @@
 -- Numbers in decimal digits.
-use Rattle.std.specs.Prelude.{ℕ, ◌+◌, ◌-◌, ◌*◌, ◌^◌, ◌<◌, List, length, fold, All}
+use Rattle.std.specs.Prelude.{ℕ, ℤ, pos, neg_ℤ, ◌+◌, ◌-◌, ◌*◌, ◌^◌, ◌<◌, ◌≤◌, ◌==◌, Bool, true, false, List, length, drop, fold, All, slice_index, if◌then◌else◌}
 use Rattle.std.specs.Char.{IsAsciiDigit}
 
 -- the number that digits say
@@ -11,3 +11,27 @@ pub record IsNumber (bytes : List ℕ) : Type 0 where
   pub some : 0 < length bytes
   pub digits : All IsAsciiDigit bytes
   pub fits : number_of bytes < 2 ^ 64
+
+-- ---- with a sign
+
+abbrev pub has_minus : List ℕ → Bool
+has_minus bytes = slice_index bytes 0 == 45
+
+-- the digits behind an optional `-`
+abbrev pub without_minus : List ℕ → List ℕ
+without_minus bytes = if has_minus bytes then drop 1 bytes else bytes
+
+-- a number below 2 ^ 63; with a `-` it may be that
+abbrev pub IsInRange : Bool → ℕ → Type 0
+IsInRange true number = number ≤ 2 ^ 63
+IsInRange false number = number < 2 ^ 63
+
+-- the number that digits behind an optional `-` say
+abbrev pub integer_of : List ℕ → ℤ
+integer_of bytes = if has_minus bytes then neg_ℤ (pos (number_of (drop 1 bytes))) else pos (number_of bytes)
+
+-- an optional `-` and one or more digits, whose number is in the range of 64 bits
+pub record IsInteger (bytes : List ℕ) : Type 0 where
+  pub some : 0 < length (without_minus bytes)
+  pub digits : All IsAsciiDigit (without_minus bytes)
+  pub fits : IsInRange (has_minus bytes) (number_of (without_minus bytes))

@@ -1,4 +1,5 @@
-ghost use Rattle.std.specs.Prelude.{◌≡◌};
+ghost use Rattle.std.specs.Prelude.{◌≡◌, ◌≤◌, length};
+ghost use Rattle.std.specs.List.{prefix_len};
 ghost use Rattle.lq_text.specs.Blanks.{is_blank, trimmed, without_end, without_front};
 
 /// Whether a byte is a blank: a space or a tab.
@@ -18,11 +19,19 @@ pub fn trim(bytes: &[u8]) -> &[u8]
 fn trim_start(bytes: &[u8]) -> &[u8]
     ensures { result.now ≡ without_front bytes.now }
 {
-    let mut start = 0;
-    'blanks: while start < bytes.len() && is_blank(bytes[start]) {
-        start += 1;
+    &bytes[blank_count(bytes)..]
+}
+
+/// How many blanks stand at the front.
+pub(crate) fn blank_count(bytes: &[u8]) -> usize
+    ensures count { result ≡ prefix_len is_blank bytes.now }
+    ensures within { result ≤ length bytes.now }
+{
+    let mut count = 0;
+    'blanks: while count < bytes.len() && is_blank(bytes[count]) {
+        count += 1;
     }
-    &bytes[start..]
+    count
 }
 
 fn trim_end(bytes: &[u8]) -> &[u8]

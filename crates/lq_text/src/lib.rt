@@ -4,9 +4,11 @@
 mod blanks;
 mod lines;
 mod numbers;
+mod seconds;
 #[cfg(test)]
 mod tests;
 
 pub use blanks::{is_blank, trim};
 pub use lines::next_line;
-pub use numbers::read_u64;
+pub use numbers::{read_i64, read_u64};
+pub use seconds::bracketed_second;

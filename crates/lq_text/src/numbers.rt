@@ -1,7 +1,7 @@
-ghost use Rattle.std.specs.Prelude.{◌≡◌, ◌^◌, ◌↔◌, min, All, IsTrue};
+ghost use Rattle.std.specs.Prelude.{◌≡◌, ◌≤◌, ◌^◌, ◌↔◌, min, neg_ℤ, pos, All, IsTrue, if◌then◌else◌};
 ghost use Rattle.std.specs.Char.{IsAsciiDigit};
 ghost use Rattle.std.specs.Option.{SomeIff};
-ghost use Rattle.lq_text.specs.Numbers.{IsNumber, number_of};
+ghost use Rattle.lq_text.specs.Numbers.{IsInRange, IsInteger, IsNumber, integer_of, number_of};
 
 /// The number that decimal digits say. It may begin with zeros. None where there is no digit, where
 /// another byte stands among them, a sign or a blank too, and where the number is above `u64::MAX`.
@@ -19,6 +19,31 @@ pub fn read_u64(b: &[u8]) -> Option<u64>
     }
 }
 
+/// The number that decimal digits behind an optional `-` say. None where there is no digit, where
+/// another byte stands among them, a `+` or a blank too, and where the number isn't one of `i64`.
+pub fn read_i64(b: &[u8]) -> Option<i64>
+    ensures { SomeIff result (IsInteger b.now) (integer_of b.now) }
+{
+    let negative = b.first() == Some(&b'-');
+    let digits = if negative { &b[1..] } else { b };
+    if digits.is_empty() || !are_digits(digits) {
+        return None;
+    }
+    signed(negative, capped_number(digits))
+}
+
+/// A number with its sign. None where it isn't one of `i64`.
+fn signed(negative: bool, number: u128) -> Option<i64>
+    requires { number ≤ 2 ^ 64 }
+    ensures { SomeIff result (IsInRange negative number) (if negative then neg_ℤ (pos number) else pos number) }
+{
+    if negative {
+        i64::try_from(-(number as i128)).ok()
+    } else {
+        i64::try_from(number).ok()
+    }
+}
+
 fn are_digits(bytes: &[u8]) -> bool
     ensures { IsTrue result ↔ All IsAsciiDigit bytes.now }
 {
@@ -26,7 +51,7 @@ fn are_digits(bytes: &[u8]) -> bool
 }
 
 /// The number that digits say, or 2 ^ 64 where it is larger.
-fn capped_number(digits: &[u8]) -> u128
+pub(crate) fn capped_number(digits: &[u8]) -> u128
     requires { All IsAsciiDigit digits.now }
     ensures { result ≡ min (number_of digits.now) (2 ^ 64) }
 {

@@ -110,3 +110,35 @@ fn a_blank_is_a_space_or_a_tab(rt: HostRuntime) {
         assert_eq!(rt; is_blank(byte), expected, "at {byte}");
     }
 }
+
+#[test]
+fn integers_have_an_optional_minus(rt: HostRuntime) {
+    let cases: [(&[u8], Option<i64>); 7] = [
+        (b"-9223372036854775808", Some(i64::MIN)),
+        (b"9223372036854775807", Some(i64::MAX)),
+        (b"-0", Some(0)),
+        (b"9223372036854775808", None),
+        (b"-9223372036854775809", None),
+        (b"-", None),
+        (b"+1", None),
+    ];
+    for (bytes, expected) in cases {
+        assert_eq!(rt; read_i64(bytes), expected);
+    }
+}
+
+#[test]
+fn a_second_has_1_to_12_digits_in_brackets(rt: HostRuntime) {
+    let cases: [(&[u8], Option<(u64, usize)>); 7] = [
+        (b"[100] \tx", Some((100, 7))),
+        (b"[999999999999]", Some((999_999_999_999, 14))),
+        (b"[1000000000000]", None),
+        (b"[]", None),
+        (b"[1 ]", None),
+        (b" [1]", None),
+        (b"[1", None),
+    ];
+    for (bytes, expected) in cases {
+        assert_eq!(rt; bracketed_second(bytes), expected);
+    }
+}
