@@ -2,7 +2,7 @@
 use Rattle.std.proofs.Common.{◌≡◌, ℕ, Option, Some, List, ◌∷◌, sym, ap, ◌∙◌}
 use Rattle.lq_objects.specs.Blocks.{Line, opened_word}
 use Rattle.lq_objects.specs.Kinds.{kind_named}
-use Rattle.lq_objects.specs.Names.{Name}
+use Rattle.lq_names.specs.Names.{Name}
 use Rattle.lq_objects.specs.Faults.{block_fault, opened_fault, part_fault}
 use Rattle.lq_objects.specs.declared.kind.Kind.{Kind}
 

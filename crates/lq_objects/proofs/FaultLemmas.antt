@@ -11,7 +11,8 @@ use Rattle.std.proofs.lemmas.Option.{none-some, same_Some}
 use Rattle.std.proofs.lemmas.Slice.Eq.{bytes_eq-Decides}
 use Rattle.lq_objects.specs.Blocks.{Line, Part, opened_word}
 use Rattle.lq_objects.specs.Kinds.{kind_named, kind_word, limit}
-use Rattle.lq_objects.specs.Names.{Block, Name, is_of, is_same, name_of, names_of}
+use Rattle.lq_names.specs.Names.{Name, is_same}
+use Rattle.lq_objects.specs.Names.{Block, is_of, name_of, names_of}
 use Rattle.lq_objects.specs.Faults.{block_fault, block_of, blocks_of, ending_fault, fault_if, first_of, inner_fault, is_bad_name, lacks_name, name_fault, part_fault, parts_fault, known_block}
 use Rattle.lq_objects.specs.declared.kind.Kind.{Kind}
 use Rattle.lq_objects.specs.declared.kind.Kind.TheVariants.{Host, Service, HostGroup, ServiceGroup, Contact, ContactGroup, Period, Command}

@@ -4,7 +4,6 @@ pub mod DistinctLemmas
 pub mod FaultLemmas
 pub mod LineLemmas
 pub mod ListLemmas
-pub mod NameLemmas
 pub mod NumberLemmas
 pub mod ObjectLemmas
 pub mod PairLemmas

@@ -6,7 +6,8 @@ use Rattle.std.proofs.lemmas.List.Elements.{filter-append}
 use Rattle.lq_records.specs.declared.base.Rules.{Rules}
 use Rattle.lq_records.specs.declared.base.Base.{Base}
 use Rattle.lq_objects.specs.Blocks.{Line}
-use Rattle.lq_objects.specs.Names.{Block, Name, is_of}
+use Rattle.lq_names.specs.Names.{Name}
+use Rattle.lq_objects.specs.Names.{Block, is_of}
 use Rattle.lq_objects.specs.Objects.{command_of, contact_group_of, contact_of, host_group_of, host_of, lines_of_kind, objects_of, period_of, service_group_of, service_of, with_object}
 use Rattle.lq_objects.specs.declared.kind.Kind.{Kind}
 use Rattle.lq_objects.specs.declared.kind.Kind.TheVariants.{Host, Service, HostGroup, ServiceGroup, Contact, ContactGroup, Period, Command}

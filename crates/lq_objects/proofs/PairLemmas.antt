@@ -4,7 +4,8 @@ use Rattle.std.specs.Borrow.{Bor}
 use Rattle.std.specs.Option.{option_map}
 use Rattle.std.proofs.lemmas.List.{length-drop}
 use Rattle.lq_records.specs.Clean.{cleaned}
-use Rattle.lq_objects.specs.Names.{Name, pairs_of}
+use Rattle.lq_names.specs.Names.{Name}
+use Rattle.lq_objects.specs.Names.{pairs_of}
 use Rattle.lq_objects.specs.Views.{texts}
 
 none_of_one : (rest : List (Bor (List ℕ))) → 0 < length rest → length rest ≤ 1 → pairs_of (map cleaned (texts rest)) ≡ None

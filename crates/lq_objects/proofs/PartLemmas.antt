@@ -1,8 +1,7 @@
 -- The parts of a file, one by one.
-use Rattle.std.proofs.Common.{◌≡◌, ℕ, ◌+◌, ◌<◌, true, false, Option, Some, None, List, [], ◌∷◌, ◌++◌, length, take, drop, get_or, refl, subst, cond, nat_lt, ⊎_elim, sym, ap, ◌∙◌, arith, take-append-drop}
+use Rattle.std.proofs.Common.{◌≡◌, ℕ, ◌+◌, ◌<◌, ◌≤◌, Bool, true, false, Option, Some, None, List, [], ◌∷◌, ◌++◌, length, take, drop, get_or, refl, subst, cond, nat_lt, ⊎_elim, sym, ap, ◌∙◌, arith, take-append-drop}
 use Rattle.std.specs.List.{list_any, position, position_or_len}
 use Rattle.std.proofs.lemmas.Bool.{cases_lt, le-ltb, lt-ltb, or_parts}
-use Rattle.lq_objects.proofs.NameLemmas.{list_any-from_position}
 use Rattle.std.proofs.lemmas.List.{drop_more, get_or-take, length-take}
 use Rattle.std.proofs.lemmas.List.Sums.{fails_before_first, passes_at_first}
 use Rattle.std.proofs.lemmas.List.Folds.{list_any_none}
@@ -57,6 +56,14 @@ parts_of-closed lines end closing found =
     let place = some_same end (position_or_len is_closing lines) (length lines) found in
     subst (λ (n : ℕ). parts_of lines ≡ part (take n lines) (Some (get_or lines n closing)) ∷ parts_of (drop (n + 1) lines)) place.0
     (closed_at_first lines closing place.1)
+
+not_below : (a b : ℕ) → cond (nat_lt a b) (Some a) None ≡ None → b ≤ a
+not_below a b none = ⊎_elim (λ below. absurd (none_some a (sym none ∙ rw (lt-ltb a b below) refl))) (λ above. above) (cases_lt a b)
+
+list_any-from_position : {X : Type 0} (p : X → Bool) (xs : List X) → position p xs ≡ None → list_any p xs ≡ false
+list_any-from_position p xs none =
+    let past : length xs ≤ position_or_len p xs = not_below (position_or_len p xs) (length xs) none in
+    list_any_none p xs (λ i d below. fails_before_first p xs i d (omega (arith, past, below)))
 
 -- the last part, where no line closes it
 pub parts_of-unclosed : (lines : List Line) → None ≡ position is_closing lines → 0 < length lines → parts_of lines ≡ part lines None ∷ parts_of []

@@ -20,7 +20,8 @@ use Rattle.lq_records.specs.declared.ids.ContactId.{ContactId}
 use Rattle.lq_records.specs.declared.ids.ContactGroupId.{ContactGroupId}
 use Rattle.lq_objects.specs.Blocks.{Line, directive, is_named, value_of}
 use Rattle.lq_objects.specs.Kinds.{reference_directive, references, target}
-use Rattle.lq_objects.specs.Names.{Block, Name, is_of, is_same, name_of, named_in, place_of, single, text_or}
+use Rattle.lq_names.specs.Names.{Name, is_same, place_of, single}
+use Rattle.lq_objects.specs.Names.{Block, is_of, name_of, named_in, text_or}
 use Rattle.lq_objects.specs.Faults.{decides, fault_if, first_of, is_empty, is_unknown, lacks_name, names_unknown, number_in, unknown_in}
 use Rattle.lq_objects.specs.Objects.{contact_group_ids, contact_ids, distinct, host_ids, host_place, lines_of_kind, number_or, places, places_in, service_ids}
 use Rattle.lq_objects.specs.declared.kind.Kind.{Kind}

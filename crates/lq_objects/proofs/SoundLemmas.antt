@@ -13,7 +13,8 @@ use Rattle.lq_records.specs.declared.base.Rules.{Rules}
 use Rattle.lq_records.specs.declared.base.Service.{Service}
 use Rattle.lq_objects.specs.Blocks.{Line, Part, parts_of, telling_lines}
 use Rattle.lq_objects.specs.Kinds.{limit}
-use Rattle.lq_objects.specs.Names.{Block, Name, is_of, is_same, name_of, names_of, text_or}
+use Rattle.lq_names.specs.Names.{Name, is_same}
+use Rattle.lq_objects.specs.Names.{Block, is_of, name_of, names_of, text_or}
 use Rattle.lq_objects.specs.Faults.{blocks_of, fault_of, is_bad_name, is_empty, lacks_name, parts_fault, unknown_fault}
 use Rattle.lq_objects.specs.Objects.{base_of, base_of_blocks, base_of_parts, base_or, command_of, contact_group_of, contact_of, fields_of, host_group_of, host_of, lines_of_kind, period_of, service_group_of, service_of}
 use Rattle.lq_objects.specs.Reading.{Reads}

@@ -1,6 +1,7 @@
 -- The names of the objects so far, by kind.
 use Rattle.std.specs.Prelude.{List, [], ◌∷◌, ◌++◌}
-use Rattle.lq_objects.specs.Names.{Block, Name, names_of}
+use Rattle.lq_names.specs.Names.{Name}
+use Rattle.lq_objects.specs.Names.{Block, names_of}
 use Rattle.lq_objects.specs.declared.kind.Kind.{Kind}
 use Rattle.lq_objects.specs.declared.kind.Kind.TheVariants.{Host, Service, HostGroup, ServiceGroup, Contact, ContactGroup, Period, Command}
 use Rattle.lq_objects.specs.declared.directory.Directory.{Directory}

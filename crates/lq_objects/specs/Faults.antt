@@ -6,7 +6,8 @@ use Rattle.std.specs.Char.{is_ascii_digit}
 use Rattle.lq_text.specs.Numbers.{number_of}
 use Rattle.lq_objects.specs.Blocks.{Line, Part, is_named, value_of, opened_word}
 use Rattle.lq_objects.specs.Kinds.{kind_named, limit, second_directive, references, reference_directive, target}
-use Rattle.lq_objects.specs.Names.{Block, Name, is_same, name_of, named_in, names_of, place_of}
+use Rattle.lq_names.specs.Names.{Name, is_same, place_of}
+use Rattle.lq_objects.specs.Names.{Block, name_of, named_in, names_of}
 use Rattle.lq_objects.specs.declared.kind.Kind.{Kind}
 use Rattle.lq_objects.specs.declared.kind.Kind.TheVariants as kind
 use Rattle.lq_objects.specs.declared.kind.Reference.{Reference}

@@ -1,9 +1,10 @@
--- The names of objects, and the places where they are found.
-use Rattle.std.specs.Prelude.{ℕ, ◌==◌, ◌&&◌, Bool, not, Option, Some, None, List, [], ◌∷◌, length, map, filter, bytes_eq}
-use Rattle.std.specs.List.{position, slice_split}
+-- The names of objects, and lists of names in directives.
+use Rattle.std.specs.Prelude.{ℕ, ◌==◌, Bool, not, Option, Some, None, List, [], ◌∷◌, length, map, filter, bytes_eq}
+use Rattle.std.specs.List.{slice_split}
 use Rattle.std.specs.Option.{option_map, option_map_or}
 use Rattle.lq_text.specs.Blanks.{trimmed}
 use Rattle.lq_records.specs.Clean.{cleaned}
+use Rattle.lq_names.specs.Names.{Name, single}
 use Rattle.lq_objects.specs.Blocks.{Line, directive}
 use Rattle.lq_objects.specs.Kinds.{name_directive, second_directive, kind_word}
 use Rattle.lq_objects.specs.declared.kind.Kind.{Kind}
@@ -11,18 +12,6 @@ use Rattle.lq_objects.specs.declared.kind.Reference.{Reference}
 use Rattle.lq_objects.specs.declared.kind.Reference.TheVariants.{Parents, ServiceHost, Contacts, ContactGroups, MemberHosts, MemberServices, MemberContacts}
 
 -- ---- names
-
--- A name. A service's has two parts: its host's name and its description. Any other has an empty second part.
-pub record Name : Type 0 where
-  pub first : List ℕ
-  pub second : List ℕ
-
--- a name of one part
-abbrev pub single : List ℕ → Name
-single text = record { first = text; second = [] }
-
-abbrev pub is_same : Name → Name → Bool
-is_same a b = bytes_eq a.first b.first && bytes_eq a.second b.second
 
 -- the text of a directive, its bytes that aren't UTF-8 replaced; another text where it is absent
 abbrev pub text_or : List ℕ → List ℕ → List Line → List ℕ
@@ -72,9 +61,3 @@ named_in ContactGroups value = Some (map single (elements value))
 named_in MemberHosts value = Some (map single (elements value))
 named_in MemberServices value = pairs_of (elements value)
 named_in MemberContacts value = Some (map single (elements value))
-
--- ---- places
-
--- where a name first stands among others
-abbrev pub place_of : List Name → Name → Option ℕ
-place_of names name = position (is_same name) names

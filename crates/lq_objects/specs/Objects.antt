@@ -21,7 +21,8 @@ use Rattle.lq_records.specs.declared.ids.ContactId.{ContactId}
 use Rattle.lq_records.specs.declared.ids.ContactGroupId.{ContactGroupId}
 use Rattle.lq_objects.specs.Blocks.{Line, Part, directive, parts_of, telling_lines, value_of}
 use Rattle.lq_objects.specs.Kinds.{reference_directive, target}
-use Rattle.lq_objects.specs.Names.{Block, Name, is_of, named_in, names_of, place_of, text_or}
+use Rattle.lq_names.specs.Names.{Name, place_of}
+use Rattle.lq_objects.specs.Names.{Block, is_of, named_in, names_of, text_or}
 use Rattle.lq_objects.specs.Faults.{blocks_of, fault_of, number_in}
 use Rattle.lq_objects.specs.declared.fault.Fault.{Fault}
 use Rattle.lq_objects.specs.declared.kind.Kind.{Kind}

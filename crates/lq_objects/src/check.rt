@@ -3,7 +3,7 @@ ghost use Rattle.std.specs.Option.{option_copied, option_to_list};
 ghost use Rattle.lq_objects.specs.Checks.{Checks, with_blocks};
 ghost use Rattle.lq_objects.specs.Directories.{known, with_name};
 ghost use Rattle.lq_objects.specs.Faults.{block_of, directive_fault, first_of, has_separator, inner_fault, is_bad_name, known_block, lacks_name, name_fault, opened_fault, part_fault};
-ghost use Rattle.lq_objects.specs.Names.{place_of};
+ghost use Rattle.lq_names.specs.Names.{place_of};
 ghost use Rattle.lq_objects.specs.Names.{name_of as named};
 
 use crate::block::Block;
@@ -12,9 +12,9 @@ use crate::directory::Directory;
 use crate::fault::{Fault, ObjectsErr, ObjectsWhat};
 use crate::kind::Kind;
 use crate::line::Line;
-use crate::name::{Name, name_of};
-use crate::name_index::NameIndex;
+use crate::name::name_of;
 use crate::part::Part;
+use lq_names::{Name, NameIndex};
 use std::alloc::Global;
 
 /// The block that a part is, where its kind is known, or the first fault in the part. The name of

@@ -1,10 +1,9 @@
 ghost use Rattle.std.specs.Prelude.{◌≡◌, None, OnOk};
 ghost use Rattle.lq_objects.specs.Directories.{empty, known, with_name};
-ghost use Rattle.lq_objects.specs.Names.{place_of};
+ghost use Rattle.lq_names.specs.Names.{place_of};
 
 use crate::kind::Kind;
-use crate::name::Name;
-use crate::name_index::NameIndex;
+use lq_names::{Name, NameIndex};
 use std::alloc::{AllocError, Global};
 
 /// The names of the objects so far, those of each kind in order.

@@ -9,7 +9,6 @@ mod fault;
 mod kind;
 mod line;
 mod name;
-mod name_index;
 mod names;
 mod objects;
 mod part;

@@ -1,11 +1,12 @@
 ghost use Rattle.std.specs.Prelude.{◌≡◌, ◌==◌, ◌∷◌, [], IfOk, filter, map};
 ghost use Rattle.std.specs.Option.{option_map};
 ghost use Rattle.lq_records.specs.Clean.{cleaned};
-ghost use Rattle.lq_objects.specs.Names.{elements, named_in, pairs_of, pieces_of, single};
+ghost use Rattle.lq_names.specs.Names.{single};
+ghost use Rattle.lq_objects.specs.Names.{elements, named_in, pairs_of, pieces_of};
 ghost use Rattle.lq_objects.specs.Views.{texts};
 
 use crate::kind::Reference;
-use crate::name::Name;
+use lq_names::Name;
 use lq_records::clean_text;
 use lq_text::trim;
 use std::alloc::{AllocError, Global};

@@ -1,7 +1,7 @@
 ghost use Rattle.std.specs.Prelude.{◌≡◌, ◌≤◌, List, [], IfOk};
 ghost use Rattle.lq_objects.specs.Directories.{known};
 ghost use Rattle.lq_objects.specs.Objects.{command_of, contact_group_of, contact_of, fields_of, host_group_of, host_of, number_or, objects_of, period_of, service_group_of, service_of, with_object};
-ghost use Rattle.lq_objects.specs.Names.{Name};
+ghost use Rattle.lq_names.specs.Names.{Name};
 
 use crate::block::Block;
 use crate::directive::{directive, number_in};

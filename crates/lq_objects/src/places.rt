@@ -1,17 +1,16 @@
 ghost use Rattle.std.specs.Prelude.{◌≡◌, IfOk, map};
 ghost use Rattle.std.specs.List.{filter_map};
 ghost use Rattle.lq_objects.specs.Directories.{known};
-ghost use Rattle.lq_objects.specs.Names.{place_of};
+ghost use Rattle.lq_names.specs.Names.{place_of};
 ghost use Rattle.lq_objects.specs.Objects.{contact_group_ids, contact_ids, distinct, host_ids, host_place, places, service_ids};
 
 use crate::directive::directive;
 use crate::directory::Directory;
 use crate::kind::Reference;
 use crate::line::Line;
-use crate::name::Name;
-use crate::name_index::NameIndex;
 use crate::names::named_in;
 use indexmap::IndexSet;
+use lq_names::{Name, NameIndex};
 use lq_records::{ContactGroupId, ContactId, HostId, Items, ServiceId};
 use std::alloc::{AllocError, Global};
 

@@ -3,7 +3,7 @@ ghost use Rattle.std.specs.List.{list_any};
 ghost use Rattle.lq_objects.specs.Directories.{known};
 ghost use Rattle.lq_objects.specs.Faults.{decides, first_of, is_unknown, names_unknown, unknown_in, unknown_in_block};
 ghost use Rattle.lq_objects.specs.Blocks.{is_named};
-ghost use Rattle.lq_objects.specs.Names.{place_of};
+ghost use Rattle.lq_names.specs.Names.{place_of};
 
 use crate::block::Block;
 use crate::directive::{is_named, value_of};
@@ -11,10 +11,9 @@ use crate::directory::Directory;
 use crate::fault::{Fault, ObjectsWhat};
 use crate::kind::{Kind, Reference};
 use crate::line::Line;
-use crate::name::Name;
-use crate::name_index::NameIndex;
 use crate::names::named_in;
 use crate::part::after;
+use lq_names::{Name, NameIndex};
 use std::alloc::{AllocError, Global};
 
 /// The first line of blocks that names what isn't there.

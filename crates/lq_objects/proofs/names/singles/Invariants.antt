@@ -1,6 +1,6 @@
 use Rattle.std.proofs.Common.{◌≡◌, ◌++◌, map, drop}
 use Rattle.lq_records.specs.Clean.{cleaned}
-use Rattle.lq_objects.specs.Names.{single}
+use Rattle.lq_names.specs.Names.{single}
 use Rattle.lq_objects.specs.Views.{texts}
 use Rattle.lq_objects.proofs.names.singles.Given as goal
 

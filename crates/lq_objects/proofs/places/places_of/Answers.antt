@@ -1,5 +1,5 @@
 use Rattle.std.proofs.Common.{sym, ap, ◌∙◌}
-use Rattle.lq_objects.specs.Names.{place_of}
+use Rattle.lq_names.specs.Names.{place_of}
 use Rattle.lq_objects.proofs.DistinctLemmas.{distinct-found, distinct-not_found}
 use Rattle.lq_objects.proofs.places.places_of.Goals.{in-Some+in-Ok, in_default}
 use Rattle.lq_objects.proofs.places.places_of.Goals as goal

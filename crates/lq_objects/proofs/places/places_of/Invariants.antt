@@ -1,6 +1,6 @@
 use Rattle.std.proofs.Common.{◌≡◌, take}
 use Rattle.std.specs.List.{filter_map}
-use Rattle.lq_objects.specs.Names.{place_of}
+use Rattle.lq_names.specs.Names.{place_of}
 use Rattle.lq_objects.specs.Objects.{distinct}
 use Rattle.lq_objects.proofs.places.places_of.Given as goal
 

@@ -1,7 +1,7 @@
 use Rattle.std.proofs.Common.{◌∙◌, ap}
-use Rattle.lq_objects.specs.Names.{place_of}
-use Rattle.lq_objects.proofs.NameLemmas.{place_of-key}
-use Rattle.lq_objects.proofs.name_index.NameIndex.find.Goals as goal
+use Rattle.lq_names.specs.Names.{place_of}
+use Rattle.lq_names.proofs.NameLemmas.{place_of-key}
+use Rattle.lq_names.proofs.name_index.NameIndex.find.Goals as goal
 
 pub returns-in-Some-clause-value : goal.returns-in-Some-clause-value
 returns-in-Some-clause-value c =

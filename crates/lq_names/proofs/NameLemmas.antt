@@ -7,7 +7,7 @@ use Rattle.std.proofs.lemmas.Bool.{cond-false, cond-true, cases_lt, le-ltb, lt-l
 use Rattle.std.proofs.lemmas.List.{get_or_default, map-append}
 use Rattle.std.proofs.lemmas.List.Sums.{fails_before_first, passes_at_first}
 use Rattle.std.proofs.lemmas.List.Folds.{list_any-from_Any, list_any_none}
-use Rattle.lq_objects.specs.Names.{Name, is_same, place_of}
+use Rattle.lq_names.specs.Names.{Name, is_same, place_of}
 
 abbrev pub Key : Type 0
 Key = String Global × String Global
@@ -49,7 +49,7 @@ none_some value same = cc
 not_below : (a b : ℕ) → cond (nat_lt a b) (Some a) None ≡ None → b ≤ a
 not_below a b none = ⊎_elim (λ below. absurd (none_some a (sym none ∙ rw (lt-ltb a b below) refl))) (λ above. above) (cases_lt a b)
 
-pub list_any-from_position : {X : Type 0} (p : X → Bool) (xs : List X) → position p xs ≡ None → list_any p xs ≡ false
+list_any-from_position : {X : Type 0} (p : X → Bool) (xs : List X) → position p xs ≡ None → list_any p xs ≡ false
 list_any-from_position p xs none =
     let past : length xs ≤ position_or_len p xs = not_below (position_or_len p xs) (length xs) none in
     list_any_none p xs (λ i d below. fails_before_first p xs i d (omega (arith, past, below)))

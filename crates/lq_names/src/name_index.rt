@@ -1,21 +1,22 @@
 ghost use Rattle.std.specs.Prelude.{◌≡◌, ◌++◌, ◌∷◌, ◌<◌, [], length, false, None, OnOk, OnErr, IfSome};
 ghost use Rattle.std.specs.List.{list_any};
-ghost use Rattle.lq_objects.specs.Names.{is_same, place_of};
+ghost use Rattle.lq_names.specs.Names.{is_same, place_of};
 
 use crate::name::Name;
 use indexmap::IndexSet;
 use std::alloc::{AllocError, Global};
 use std::marker::Model;
 
-/// Names of one kind, in order, with the place of each.
+/// Different names of one kind in order, with the place of each. Contracts see them as a list. There are
+/// fewer than 2 ^ 32.
 #[derive(Drop)]
-pub(crate) struct NameIndex {
+pub struct NameIndex {
     names: IndexSet<(String, String)>,
 }
 
 impl Model for NameIndex {
     ghost use Rattle.std.specs.Prelude.{List, ◌<◌, ◌^◌, length, map, string_bytes};
-    ghost use Rattle.lq_objects.specs.Names.{Name};
+    ghost use Rattle.lq_names.specs.Names.{Name};
 
     ghost Value = { List Name };
 
@@ -29,7 +30,7 @@ const MOST_NAMES: usize = 0xFFFF_FFFF;
 
 impl NameIndex {
     /// No names. It takes no memory.
-    pub(crate) fn new(alloc: Global) -> Self
+    pub fn new(alloc: Global) -> Self
         ensures { result ≡ [] }
     {
         NameIndex {
@@ -38,14 +39,14 @@ impl NameIndex {
     }
 
     /// How many names there are.
-    pub(crate) fn len(&self) -> usize
+    pub fn len(&self) -> usize
         ensures { result ≡ length self.now }
     {
         self.names.len()
     }
 
-    /// The place of a name.
-    pub(crate) fn find(&self, name: &Name) -> Option<u32>
+    /// The place of a name, from 0 on. None where it isn't there.
+    pub fn find(&self, name: &Name) -> Option<u32>
         ensures value { result ≡ place_of self.now name.now }
         ensures within { IfSome result (λ place. place < length self.now) }
     {
@@ -56,15 +57,16 @@ impl NameIndex {
     }
 
     /// Whether a name is there.
-    pub(crate) fn contains(&self, name: &Name) -> bool
+    pub fn contains(&self, name: &Name) -> bool
         ensures value { result ≡ list_any (is_same name.now) self.now }
         ensures absent { result ≡ false → place_of self.now name.now ≡ None }
     {
         self.find(name).is_some()
     }
 
-    /// Adds a name that isn't there at the end.
-    pub(crate) fn push(&mut self, name: Name) -> Result<(), AllocError>
+    /// Adds a name that isn't there at the end. The only error is want of memory; the names then stay
+    /// as they were.
+    pub fn push(&mut self, name: Name) -> Result<(), AllocError>
         requires { place_of self.old name ≡ None }
         ensures ok { OnOk result (self.new ≡ self.old ++ name ∷ []) }
         ensures err { OnErr result (self.new ≡ self.old) }

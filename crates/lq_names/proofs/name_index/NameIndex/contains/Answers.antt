@@ -1,7 +1,7 @@
 use Rattle.std.proofs.Common.{is_some, sym, ap, ◌∙◌}
-use Rattle.lq_objects.specs.Names.{is_same, place_of}
-use Rattle.lq_objects.proofs.NameLemmas.{is_some-position, none_from_is_some}
-use Rattle.lq_objects.proofs.name_index.NameIndex.contains.Goals as goal
+use Rattle.lq_names.specs.Names.{is_same, place_of}
+use Rattle.lq_names.proofs.NameLemmas.{is_some-position, none_from_is_some}
+use Rattle.lq_names.proofs.name_index.NameIndex.contains.Goals as goal
 
 pub returns-clause-value : goal.returns-clause-value
 returns-clause-value c =

@@ -1,5 +1,5 @@
-use Rattle.lq_objects.proofs.NameLemmas.{added_key}
-use Rattle.lq_objects.proofs.name_index.NameIndex.push.Goals as goal
+use Rattle.lq_names.proofs.NameLemmas.{added_key}
+use Rattle.lq_names.proofs.name_index.NameIndex.push.Goals as goal
 
 pub returns-clause-ok : goal.returns-clause-ok
 returns-clause-ok c =

@@ -1,0 +1,19 @@
+-- The names of objects, and the places where they are found.
+use Rattle.std.specs.Prelude.{ℕ, ◌&&◌, Bool, Option, List, [], bytes_eq}
+use Rattle.std.specs.List.{position}
+
+-- A name. A service's has two parts: its host's name and its description. Any other has an empty second part.
+pub record Name : Type 0 where
+  pub first : List ℕ
+  pub second : List ℕ
+
+-- a name of one part
+abbrev pub single : List ℕ → Name
+single text = record { first = text; second = [] }
+
+abbrev pub is_same : Name → Name → Bool
+is_same a b = bytes_eq a.first b.first && bytes_eq a.second b.second
+
+-- where a name first stands among others
+abbrev pub place_of : List Name → Name → Option ℕ
+place_of names name = position (is_same name) names

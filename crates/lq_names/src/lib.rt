@@ -1,0 +1,10 @@
+//! The names of objects, and where each stands among the others of its kind.
+#![tactic(auto)]
+
+mod name;
+mod name_index;
+#[cfg(test)]
+mod tests;
+
+pub use name::Name;
+pub use name_index::NameIndex;
