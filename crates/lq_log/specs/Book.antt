@@ -1,0 +1,26 @@
+-- The entries of a log.
+use Rattle.std.specs.Prelude.{ℕ, ◌<◌, ◌≤◌, ⊤, List, [], ◌∷◌}
+use Rattle.lq_records.specs.declared.log_entry.LogEntry.{LogEntry}
+use Rattle.lq_log.specs.declared.book.TheConstants.{TIME_LIMIT}
+
+-- the entries of a book, and how many more it has room for
+pub record Book : Type 0 where
+  pub entries : List LogEntry
+  pub room : ℕ
+
+-- the time after entries, by the time before them
+abbrev pub time_after : ℕ → List LogEntry → ℕ
+time_after before [] = before
+time_after before (entry ∷ entries) = time_after entry.time entries
+
+-- the time of the last entry, 0 without one
+abbrev pub last_time : List LogEntry → ℕ
+last_time entries = time_after 0 entries
+
+-- each entry's time is at least that of the one before, and below the limit
+abbrev pub InOrderAfter : ℕ → List LogEntry → Type 0
+InOrderAfter before [] = ⊤
+InOrderAfter before (entry ∷ entries) = (before ≤ entry.time) × (entry.time < TIME_LIMIT) × InOrderAfter entry.time entries
+
+abbrev pub InOrder : List LogEntry → Type 0
+InOrder entries = InOrderAfter 0 entries

@@ -1,0 +1,5 @@
+pub mod Book
+pub mod Entries
+pub mod Fields
+pub mod Forms
+pub mod Written

@@ -1,0 +1,91 @@
+ghost use Rattle.std.specs.Prelude.{◌≡◌, ◌<◌, ◌≤◌, ◌^◌, ◌+◌, ◌++◌, ◌∷◌, ◌==◌, [], IsOk, OnErr, OnOk, length};
+ghost use Rattle.lq_log.specs.Book.{InOrder, last_time};
+ghost use Rattle.lq_log.specs.declared.book.TheConstants.{TIME_LIMIT};
+
+use lq_records::{LogEntry, Memory};
+use std::alloc::{AllocError, Global};
+use std::marker::Model;
+
+/// Each second is below it, as a second is written with at most 12 digits.
+pub const TIME_LIMIT: u64 = 1_000_000_000_000;
+
+/// A book has at most as many entries.
+const MOST_ENTRIES: usize = 1 << 40;
+
+/// The entries of a log, each no earlier than the one before.
+#[derive(Drop)]
+pub struct LogBook {
+    entries: Vec<LogEntry>,
+}
+
+impl Model for LogBook {
+    ghost use Rattle.std.specs.Prelude.{◌-◌, ◌≤◌, ◌^◌, min};
+    ghost use Rattle.std.specs.Vec.{vec_len, vec_capacity};
+    ghost use Rattle.lq_log.specs.Book.{Book, InOrder};
+
+    ghost Value = { Book };
+
+    ghost view = { λ book. record { entries = book.entries.items; room = min (vec_capacity book.entries) (2 ^ 40) - vec_len book.entries } };
+
+    ghost invariant = { λ book. (vec_len book.entries ≤ 2 ^ 40) × InOrder book.entries.items };
+}
+
+impl LogBook {
+    /// A book without entries. It takes no memory.
+    pub fn empty(alloc: Global) -> Self
+        ensures { result.entries ≡ [] }
+    {
+        LogBook {
+            entries: Vec::new(alloc),
+        }
+    }
+
+    /// Makes room for n more entries. The only error is want of memory, which more than 2^40 entries
+    /// are too; the book is as before then.
+    pub fn reserve(&mut self, n: usize) -> Result<(), Memory>
+        ensures kept { self.new.entries ≡ self.old.entries }
+        ensures ok { OnOk result (n ≤ self.new.room) }
+        ensures limit { OnOk result (length self.new.entries + n ≤ 2 ^ 40) }
+        ensures room { n ≤ self.old.room → IsOk result }
+        ensures grows { self.old.room ≤ self.new.room }
+        ensures err { OnErr result (self.new ≡ self.old) }
+    {
+        if n > MOST_ENTRIES - self.entries.len() {
+            return Err(AllocError);
+        }
+        self.entries.reserve(n)
+    }
+
+    /// Adds an entry at the end, which is no earlier than the last one. The only error is want of memory, which more than 2^40 entries are
+    /// too; the entries are as before then. Where the book has room it isn't given.
+    #[tactic(auto, using(crate::proofs::BookLemmas::longer_in_order, crate::proofs::BookLemmas::last_time_added))]
+    pub fn add(&mut self, entry: LogEntry) -> Result<(), Memory>
+        requires order { last_time self.old.entries ≤ entry.time }
+        requires below { entry.time < TIME_LIMIT }
+        ensures ok { OnOk result (self.new.entries ≡ self.old.entries ++ entry ∷ []) }
+        ensures last { OnOk result (last_time self.new.entries ≡ entry.time) }
+        ensures err { OnErr result (self.new.entries ≡ self.old.entries) }
+        ensures room { 0 < self.old.room → IsOk result }
+        ensures uses { self.old.room ≤ self.new.room + 1 }
+    {
+        self.reserve(1)?;
+        self.entries.push_reserved(entry);
+        Ok(())
+    }
+
+    /// How many entries there are, at most 2^40.
+    pub fn len(&self) -> usize
+        ensures count { result ≡ length self.now.entries }
+        ensures most { result ≤ 2 ^ 40 }
+        ensures order { InOrder self.now.entries }
+    {
+        self.entries.len()
+    }
+
+    /// Whether there is no entry.
+    pub fn is_empty(&self) -> bool
+        ensures { result ≡ (length self.now.entries == 0) }
+    {
+        self.entries.is_empty()
+    }
+}

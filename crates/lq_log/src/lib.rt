@@ -1,0 +1,18 @@
+//! The lines of a log: what each says, the lines that the program writes, and the book that keeps
+//! the entries.
+#![tactic(auto)]
+
+mod book;
+mod field;
+mod fill;
+mod form;
+mod read;
+mod split;
+#[cfg(test)]
+mod tests;
+mod words;
+mod written;
+
+pub use book::{LogBook, TIME_LIMIT};
+pub use read::read_line;
+pub use written::{Form, make_line};

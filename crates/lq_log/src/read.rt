@@ -1,0 +1,95 @@
+ghost use Rattle.std.specs.Prelude.{◌≡◌, ◌<◌, ◌≤◌, IfOk, IfSome, nat_eq};
+ghost use Rattle.std.specs.List.{list_any, starts_with};
+ghost use Rattle.std.specs.Option.{option_and_then};
+ghost use Rattle.lq_log.specs.Entries.{blank, entry_of, formed, other, parted, program_beginnings, said};
+ghost use Rattle.lq_log.specs.declared.book.TheConstants.{TIME_LIMIT};
+
+use crate::fill::with_fields;
+use crate::form::LineForm;
+use crate::split::{parted, second_and_text};
+use lq_records::{Kind, LogEntry, Memory, Text};
+use std::alloc::Global;
+
+/// The entry of a line, where `before` is the time of the entry before it, 0 for the first. None
+/// where no `[`, 1 to 12 digits and `]` stand at its front. A line whose text has the name of a form
+/// and not its fields says nothing but its message and its time. The only error is want of memory.
+pub fn read_line(alloc: Global, line: &str, before: u64) -> Result<Option<LogEntry>, Memory>
+    ensures read { IfOk result (λ entry. entry ≡ entry_of line.now before) }
+    ensures order { IfOk result (λ read. IfSome read (λ entry. before ≤ entry.time)) }
+    ensures below { before < TIME_LIMIT → IfOk result (λ read. IfSome read (λ entry. entry.time < TIME_LIMIT)) }
+{
+    let Some((second, text)) = second_and_text(line) else {
+        return Ok(None);
+    };
+    let mut entry = said(alloc, text)?;
+    entry.time = second.max(before);
+    entry.message = Text::new(alloc, line)?;
+    Ok(Some(entry))
+}
+
+/// What a text says.
+pub(crate) fn said(alloc: Global, text: &str) -> Result<LogEntry, Memory>
+    ensures { IfOk result (λ entry. entry ≡ said text.now) }
+{
+    match with_form(alloc, text)? {
+        Some(entry) => Ok(entry),
+        None => Ok(other(alloc, text)),
+    }
+}
+
+/// What a text says that has the name and the fields of a form.
+fn with_form(alloc: Global, text: &str) -> Result<Option<LogEntry>, Memory>
+    ensures { IfOk result (λ entry. entry ≡ option_and_then formed (parted text.now)) }
+{
+    let Some((name, rest)) = parted(text) else {
+        return Ok(None);
+    };
+    let Some(form) = LineForm::named(alloc, name) else {
+        return Ok(None);
+    };
+    with_fields(alloc, form.fields(), rest, form.into_blank(alloc))
+}
+
+/// The entry of a text without a form.
+fn other(alloc: Global, text: &str) -> LogEntry
+    ensures { result ≡ other text.now }
+{
+    let class = if is_of_program(text) { 2 } else { 0 };
+    blank(alloc, class, Kind::Other)
+}
+
+/// Whether a text tells of the program's own run.
+fn is_of_program(text: &str) -> bool
+    ensures { result ≡ list_any (starts_with nat_eq text.now) program_beginnings }
+{
+    let bytes = text.as_bytes();
+    bytes.starts_with(b"LOG VERSION")
+        || bytes.starts_with(b"LOG ROTATION")
+        || bytes.starts_with(b"Nagios ")
+        || bytes.starts_with(b"Caught ")
+        || bytes.starts_with(b"Successfully shutdown")
+        || bytes.starts_with(b"Bailing out")
+        || bytes.starts_with(b"Finished daemonizing")
+        || bytes.starts_with(b"Auto-save of retention data")
+}
+
+/// An entry of a class and a kind that says nothing more.
+pub(crate) fn blank(alloc: Global, class: u8, kind: Kind) -> LogEntry
+    ensures { result ≡ blank class kind }
+{
+    LogEntry {
+        time: 0,
+        class,
+        kind,
+        message: Text::empty(alloc),
+        host: Text::empty(alloc),
+        service: Text::empty(alloc),
+        state: 0,
+        word: Text::empty(alloc),
+        attempt: 0,
+        contact: Text::empty(alloc),
+        command: Text::empty(alloc),
+        output: Text::empty(alloc),
+        comment: Text::empty(alloc),
+    }
+}

@@ -1,0 +1,217 @@
+ghost use Rattle.std.specs.Prelude.{◌≡◌, ◌<◌, ◌++◌, IfOk, OnOk, Some, codes, string_bytes};
+ghost use Rattle.std.specs.Fmt.{decimal};
+ghost use Rattle.lq_log.specs.Entries.{entry_of};
+ghost use Rattle.lq_log.specs.declared.book.TheConstants.{TIME_LIMIT};
+ghost use Rattle.lq_log.specs.Written.{alert_name, downtime_name, form_text, host_remark, next_field, object_text, remark, service_remark, stamped, state_word, type_word, written};
+
+use crate::read::said;
+use crate::words::{host_state_name, service_state_name};
+use lq_records::{LogEntry, Memory, Text};
+use std::alloc::Global;
+
+/// A line that the program writes.
+#[derive(Debug, Drop)]
+pub enum Form {
+    /// An external command.
+    External {
+        /// The command's text, its own second left out.
+        text: Text,
+    },
+    /// A check's result that changed the state of a host or a service, the type of that state or the
+    /// attempt.
+    Alert {
+        host: Text,
+        /// The service's description; empty where the host's own state changed.
+        service: Text,
+        /// Of a host 0 to 2, of a service 0 to 3; another number is written as no name.
+        state: i64,
+        /// Whether the state is a hard one.
+        hard: bool,
+        attempt: u32,
+        output: Text,
+    },
+    /// A downtime that begins or ends.
+    Downtime {
+        host: Text,
+        /// The service's description; empty where the downtime is the host's own.
+        service: Text,
+        /// `STARTED` or `STOPPED`; any other word is written as `CANCELLED`.
+        word: Text,
+    },
+}
+
+/// The entry of a line that the program writes at a second, which is counted from the beginning of
+/// 1970: the line with that second in brackets, and what its text says. A second below `TIME_LIMIT`
+/// has at most 12 digits, so that the line reads as the same entry. The only error is want of memory.
+pub fn make_line(alloc: Global, time: u64, form: &Form) -> Result<LogEntry, Memory>
+    ensures made { IfOk result (λ entry. entry ≡ written time form.now) }
+    ensures own_text { time < TIME_LIMIT → IfOk result (λ entry. entry_of entry.message 0 ≡ Some entry) }
+{
+    let text = form_text(alloc, form)?;
+    let mut entry = said(alloc, text.as_str())?;
+    entry.time = time;
+    entry.message = stamped(alloc, time, text.as_str())?;
+    Ok(entry)
+}
+
+/// The line of a text, with its second.
+#[tactic(auto, unfolding(crate::specs::Written::stamped))]
+fn stamped(alloc: Global, time: u64, text: &str) -> Result<Text, Memory>
+    ensures { IfOk result (λ line. line ≡ stamped time text.now) }
+{
+    let mut line = String::from_str(alloc, "[")?;
+    line.push_str(time.to_string(alloc)?.as_str())?;
+    line.push_str("] ")?;
+    line.push_str(text)?;
+    Ok(Text::from_string(line))
+}
+
+/// The text of a form.
+#[tactic(auto, unfolding(crate::specs::Written::form_text))]
+fn form_text(alloc: Global, form: &Form) -> Result<String, Memory>
+    ensures { IfOk result (λ text. string_bytes text ≡ form_text form.now) }
+{
+    match form {
+        Form::External { text } => external_text(alloc, text.as_str()),
+        Form::Alert {
+            host,
+            service,
+            state,
+            hard,
+            attempt,
+            output,
+        } => {
+            let mut text = alert_start(alloc, host.as_str(), service.as_str(), *state)?;
+            push_result(&mut text, alloc, *hard, *attempt, output.as_str())?;
+            Ok(text)
+        }
+        Form::Downtime {
+            host,
+            service,
+            word,
+        } => downtime_text(alloc, host.as_str(), service.as_str(), word.as_str()),
+    }
+}
+
+fn external_text(alloc: Global, command: &str) -> Result<String, Memory>
+    ensures { IfOk result (λ text. string_bytes text ≡ codes "EXTERNAL COMMAND: " ++ command.now) }
+{
+    let mut text = String::from_str(alloc, "EXTERNAL COMMAND: ")?;
+    text.push_str(command)?;
+    Ok(text)
+}
+
+/// The text of an alert up to its state.
+fn alert_start(alloc: Global, host: &str, service: &str, state: i64) -> Result<String, Memory>
+    ensures { IfOk result (λ text. string_bytes text ≡ alert_name service.now ++ object_text host.now service.now ++ next_field (state_word service.now state)) }
+{
+    let mut text = String::from_str(alloc, alert_name(service))?;
+    push_object(&mut text, host, service)?;
+    push_field(&mut text, state_word(service, state))?;
+    Ok(text)
+}
+
+/// Appends the fields of an alert behind its state.
+fn push_result(
+    text: &mut String,
+    alloc: Global,
+    hard: bool,
+    attempt: u32,
+    output: &str,
+) -> Result<(), Memory>
+    ensures { OnOk result (string_bytes text.new ≡ string_bytes text.old ++ next_field (type_word hard) ++ next_field (decimal attempt) ++ next_field output.now) }
+{
+    push_field(text, if hard { "HARD" } else { "SOFT" })?;
+    push_field(text, attempt.to_string(alloc)?.as_str())?;
+    push_field(text, output)
+}
+
+fn downtime_text(alloc: Global, host: &str, service: &str, word: &str) -> Result<String, Memory>
+    ensures { IfOk result (λ text. string_bytes text ≡ downtime_name service.now ++ object_text host.now service.now ++ next_field (remark service.now word.now)) }
+{
+    let mut text = String::from_str(alloc, downtime_name(service))?;
+    push_object(&mut text, host, service)?;
+    push_field(&mut text, remark(service, word))?;
+    Ok(text)
+}
+
+/// Appends a host, and a service's description behind it.
+#[tactic(auto, unfolding(crate::specs::Written::object_text))]
+fn push_object(text: &mut String, host: &str, service: &str) -> Result<(), Memory>
+    ensures { OnOk result (string_bytes text.new ≡ string_bytes text.old ++ object_text host.now service.now) }
+{
+    text.push_str(host)?;
+    if service.is_empty() {
+        return Ok(());
+    }
+    push_field(text, service)
+}
+
+/// Appends a field behind another one.
+fn push_field(text: &mut String, field: &str) -> Result<(), Memory>
+    ensures { OnOk result (string_bytes text.new ≡ string_bytes text.old ++ next_field field.now) }
+{
+    text.push_str(";")?;
+    text.push_str(field)
+}
+
+fn alert_name(service: &str) -> &'static str
+    ensures { result.now ≡ alert_name service.now }
+{
+    if service.is_empty() {
+        "HOST ALERT: "
+    } else {
+        "SERVICE ALERT: "
+    }
+}
+
+fn state_word(service: &str, state: i64) -> &'static str
+    ensures { result.now ≡ state_word service.now state }
+{
+    if service.is_empty() {
+        host_state_name(state)
+    } else {
+        service_state_name(state)
+    }
+}
+
+fn downtime_name(service: &str) -> &'static str
+    ensures { result.now ≡ downtime_name service.now }
+{
+    if service.is_empty() {
+        "HOST DOWNTIME ALERT: "
+    } else {
+        "SERVICE DOWNTIME ALERT: "
+    }
+}
+
+/// The word of a downtime with its remark.
+fn remark(service: &str, word: &str) -> &'static str
+    ensures { result.now ≡ remark service.now word.now }
+{
+    if service.is_empty() {
+        host_remark(word)
+    } else {
+        service_remark(word)
+    }
+}
+
+fn host_remark(word: &str) -> &'static str
+    ensures { result.now ≡ host_remark word.now }
+{
+    match word {
+        "STARTED" => "STARTED; Host has entered a period of scheduled downtime",
+        "STOPPED" => "STOPPED; Host has exited from a period of scheduled downtime",
+        _ => "CANCELLED; Scheduled downtime for host has been cancelled.",
+    }
+}
+
+fn service_remark(word: &str) -> &'static str
+    ensures { result.now ≡ service_remark word.now }
+{
+    match word {
+        "STARTED" => "STARTED; Service has entered a period of scheduled downtime",
+        "STOPPED" => "STOPPED; Service has exited from a period of scheduled downtime",
+        _ => "CANCELLED; Scheduled downtime for service has been cancelled.",
+    }
+}
