@@ -1,0 +1,6 @@
+pub mod Names
+pub mod Fields
+pub mod Forms
+pub mod Commands
+pub mod Orders
+pub mod Reading
