@@ -1,0 +1,30 @@
+use Rattle.std.proofs.Common.{◌≡◌, ◌∙◌, ◌+◌, ap, arith, length}
+use Rattle.lq_live.specs.Parts.{state_of}
+use Rattle.lq_live.specs.Step.{step}
+use Rattle.lq_live.proofs.Apply.{step_for, timely_for}
+use Rattle.lq_live.proofs.Kept.{step_kept, step_longer}
+use Rattle.lq_live.proofs.live.Live.apply.Goals as goal
+
+pub play-requires-clause-timely : goal.play-requires-clause-timely
+play-requires-clause-timely c =
+    timely_for (state_of c.self.inside.parts) (state_of c.reserve.new.parts) c.args.u.now c.in_ok-edits.edits.items c.self.invariant.0 c.in_ok-edits.ensures c.reserve.ensures.kept
+
+pub overflow_add-self : goal.overflow_add-self
+overflow_add-self c = omega (arith, c.self.invariant.1, c.in_ok-reserve.ensures.lines, ap (λ s. length s.log) c.reserve.ensures.kept)
+
+next : (c : goal.After-self-1) → state_of c.look_ahead.new.parts ≡ step (state_of c.self.inside.parts) c.args.u.now
+next c = c.look_ahead.ensures.state
+    ∙ step_for (state_of c.self.inside.parts) (state_of c.reserve.new.parts) (state_of c.play.new.parts) c.args.u.now c.in_ok-edits.edits.items
+    c.in_ok-edits.ensures c.reserve.ensures.kept c.play.ensures.state
+
+pub invariant_of-self-2 : goal.invariant_of-self-2
+invariant_of-self-2 c = (
+  rw (next c) (step_kept (state_of c.self.inside.parts) c.args.u.now c.self.invariant.0),
+  omega (arith, c.self.invariant.1, ap (λ s. length s.log) (next c), step_longer (state_of c.self.inside.parts) c.args.u.now c.self.invariant.0),
+  c.look_ahead.ensures.moment (c.play.ensures.moment (c.reserve.ensures.moment c.self.invariant.2)),
+)
+
+pub returns-clause-ok : goal.returns-clause-ok
+returns-clause-ok c =
+    ap (λ state. record { state = state; count = c.self.inside.count + 1 }) (next c)
+    ∙ ap (λ live. record { state = step live.state c.args.u.now; count = live.count + 1 }) c.self.view_is

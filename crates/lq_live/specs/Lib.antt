@@ -1,0 +1,9 @@
+pub mod State
+pub mod Results
+pub mod Downtimes
+pub mod Edits
+pub mod Effects
+pub mod Step
+pub mod Parts
+pub mod Moved
+pub mod Order
