@@ -1,112 +1,42 @@
 -- What the places of the first message show.
-use Rattle.std.proofs.Common.{◌≡◌, ℕ, ◌+◌, ◌-◌, ◌<◌, ◌≤◌, nat_lt, Bool, true, false, List, [], ◌++◌, length, take, drop, IsTrue, refl, sym, ap, ◌∙◌, subst, arith, append-nil, length-take, length-drop, length-append}
-use Rattle.std.proofs.lemmas.Bool.{cases_lt}
-use Rattle.std.proofs.lemmas.List.{drop-drop, drop-take, take-append-le}
-use Rattle.std.proofs.Math.Seq.{take-append-add}
-use Rattle.std.proofs.Math.Logic.{⊎_elim}
+use Rattle.std.proofs.Common.{◌≡◌, ℕ, ◌+◌, ◌-◌, ◌<◌, ◌≤◌, Bool, true, false, List, [], length, take, drop, refl, sym, ap, ◌∙◌, subst, arith, length-take}
+use Rattle.std.proofs.lemmas.List.{drop-drop, drop-take}
 use Rattle.std.proofs.lemmas.Grind.{common_steps}
-use Rattle.lq_request.specs.Messages.{Message, message_of, piece_of, needed_for, first_piece, needed, IsFirst, IsNext, Piece, Query, TooLong, Empty, More}
+use Rattle.lq_request.specs.Messages.{Message, behind, first_piece, IsFirst, IsNext, Piece, More, rest_behind, whole}
 use Rattle.lq_request.specs.Extent.{IsExtent}
-use Rattle.lq_request.specs.Cutting.{Shows, IsWithin, found_piece, rest_behind, taken_by}
+use Rattle.lq_request.specs.Cutting.{Shows, IsWithin, found_piece, taken_by}
 use Rattle.lq_request.specs.declared.extent.Extent.{Extent}
+use Rattle.lq_request.specs.declared.extent.MessageKind.{MessageKind}
+use Rattle.lq_request.specs.declared.extent.MessageKind.TheVariants as message
 use Rattle.lq_request.specs.declared.cut.Found.{Found}
 use Rattle.lq_request.specs.declared.cut.Found.TheVariants as found
 use Rattle.lq_request.specs.declared.cut.TheConstants.{MESSAGE_LIMIT}
-use Rattle.lq_request.proofs.MessageLemmas.{message_stable}
+use Rattle.lq_request.proofs.ListLemmas.{part_of_front, take_front}
+use Rattle.lq_request.proofs.MessageLemmas.{message_kind}
+use Rattle.lq_request.proofs.PieceLemmas.{window_message, piece_ended, piece_long, piece_more, piece_last, first_ended, first_long, first_last}
 
--- ---- lists
+-- ---- what is behind a message
 
-pub take_whole : (n : ℕ) (bytes : List ℕ) → length bytes ≤ n → take n bytes ≡ bytes
-take_whole n bytes small = grind (arith, common_steps)
+whole_not_more : (k : MessageKind) (text : List ℕ) → whole k text ≡ More → ⊥
+whole_not_more message.Query text is = cc
+whole_not_more message.Command text is = cc
+whole_not_more message.Nothing text is = cc
 
-take_front : (m n : ℕ) (bytes : List ℕ) → m ≤ n → take m (take n bytes) ≡ take m bytes
-take_front m n bytes low = grind (arith, common_steps)
+pub behind_message : (k : MessageKind) (text bytes : List ℕ) → (k ≡ message.Nothing → ⊥) → rest_behind (whole k text) bytes ≡ behind bytes (window_message bytes)
+behind_message message.Query text bytes some = refl
+behind_message message.Command text bytes some = refl
+behind_message message.Nothing text bytes some = absurd (some refl)
 
--- a part of a front is a part of the whole
-pub part_of_front : (bytes : List ℕ) (start end n : ℕ) → start ≤ end → end ≤ n → take (end - start) (drop start (take n bytes)) ≡ take (end - start) (drop start bytes)
-part_of_front bytes start end n low high =
-    let whole : start + (n - start) ≡ n = omega arith in
-    ap (λ k. take (end - start) (drop start (take k bytes))) (sym whole) ∙ ap (take (end - start)) (drop-take start (n - start) bytes)
-    ∙ take_front (end - start) (n - start) (drop start bytes) (omega arith)
+pub behind_ended : (bytes : List ℕ) (first : Message) → first.ended ≡ true → behind bytes first ≡ drop first.size bytes
+behind_ended bytes first is = rw is refl
 
--- a front of more bytes
-front_more : (n : ℕ) (bytes more : List ℕ) → take n (bytes ++ more) ≡ take n bytes ++ take (n - length bytes) more
-front_more n bytes more = ⊎_elim
-    (λ low. let none : n - length bytes ≡ 0 = omega arith in
-    take-append-le n bytes more (omega arith) ∙ sym (append-nil (take n bytes)) ∙ ap (λ k. take n bytes ++ take k more) (sym none))
-    (λ high. let whole : length bytes + (n - length bytes) ≡ n = omega arith in
-    ap (λ k. take k (bytes ++ more)) (sym whole) ∙ take-append-add bytes more (n - length bytes)
-    ∙ ap (λ front. front ++ take (n - length bytes) more) (sym (take_whole n bytes high)))
-    (cases_lt n (length bytes))
+pub behind_last : (k : MessageKind) (text bytes : List ℕ) → (window_message bytes).ended ≡ false → rest_behind (whole k text) bytes ≡ []
+behind_last message.Query text bytes is = rw is refl
+behind_last message.Command text bytes is = rw is refl
+behind_last message.Nothing text bytes is = refl
 
--- ---- a piece, by its message
-
-piece_ended : (ended : Bool) (bytes : List ℕ) (message : Message) → message.ended ≡ true → piece_of ended bytes message ≡ Query message.text
-piece_ended ended bytes message is = rw is refl
-
-piece_long : (ended : Bool) (bytes : List ℕ) (message : Message) → message.ended ≡ false → MESSAGE_LIMIT < length bytes → piece_of ended bytes message ≡ TooLong (take MESSAGE_LIMIT bytes)
-piece_long ended bytes message is long = let is_long : nat_lt MESSAGE_LIMIT (length bytes) ≡ true = grind arith in rw (is, is_long) refl
-
-piece_more : (ended : Bool) (bytes : List ℕ) (message : Message) → message.ended ≡ false → length bytes ≤ MESSAGE_LIMIT → ended ≡ false → piece_of ended bytes message ≡ More
-piece_more ended bytes message is short open' = let is_long : nat_lt MESSAGE_LIMIT (length bytes) ≡ false = grind arith in rw (is, is_long, open') refl
-
-piece_empty : (ended : Bool) (bytes : List ℕ) (message : Message) → message.ended ≡ false → length bytes ≤ MESSAGE_LIMIT → ended ≡ true → length message.text ≡ 0
-    → piece_of ended bytes message ≡ Empty
-piece_empty ended bytes message is short closed none = let is_long : nat_lt MESSAGE_LIMIT (length bytes) ≡ false = grind arith in rw (is, is_long, closed, none) refl
-
-piece_last : (ended : Bool) (bytes : List ℕ) (message : Message) → message.ended ≡ false → length bytes ≤ MESSAGE_LIMIT → ended ≡ true → 0 < length message.text
-    → piece_of ended bytes message ≡ Query message.text
-piece_last ended bytes message is short closed some = let is_long : nat_lt MESSAGE_LIMIT (length bytes) ≡ false = grind arith in rw (is, is_long, closed) (grind arith)
-
--- ---- how many bytes it needs
-
-needed_ended : (bytes : List ℕ) (message : Message) → message.ended ≡ true → needed_for bytes message ≡ message.size
-needed_ended bytes message is = rw is refl
-
-needed_long : (bytes : List ℕ) (message : Message) → message.ended ≡ false → MESSAGE_LIMIT < length bytes → needed_for bytes message ≡ MESSAGE_LIMIT + 1
-needed_long bytes message is long = let is_long : nat_lt MESSAGE_LIMIT (length bytes) ≡ true = grind arith in rw (is, is_long) refl
-
-needed_last : (bytes : List ℕ) (message : Message) → message.ended ≡ false → length bytes ≤ MESSAGE_LIMIT → needed_for bytes message ≡ length bytes
-needed_last bytes message is short = let is_long : nat_lt MESSAGE_LIMIT (length bytes) ≡ false = grind arith in rw (is, is_long) refl
-
--- ---- the first piece, whatever follows
-
-abbrev window_message : List ℕ → Message
-window_message bytes = message_of (take MESSAGE_LIMIT bytes)
-
--- a message that has ended
-first_ended : (ended : Bool) (bytes : List ℕ) → (window_message bytes).ended ≡ true → (window_message bytes).size ≤ length bytes → IsFirst (Query (window_message bytes).text) ended bytes
-unfolding first_piece needed
-first_ended ended bytes is small =
-    let same : (more : List ℕ) → window_message (bytes ++ more) ≡ window_message bytes = λ more.
-    ap message_of (front_more MESSAGE_LIMIT bytes more) ∙ message_stable (take MESSAGE_LIMIT bytes) (take (MESSAGE_LIMIT - length bytes) more) is in
-    record {
-      first = λ more closed. sym (ap (piece_of true (bytes ++ more)) (same more) ∙ piece_ended true (bytes ++ more) (window_message bytes) is);
-      read = λ more closed. let size : needed (bytes ++ more) ≡ (window_message bytes).size = ap (needed_for (bytes ++ more)) (same more) ∙ needed_ended (bytes ++ more) (window_message bytes) is in
-          omega (arith, size, small);
-    }
-
--- a message that is too long
-first_long : (ended : Bool) (bytes : List ℕ) → (window_message bytes).ended ≡ false → MESSAGE_LIMIT < length bytes → IsFirst (TooLong (take MESSAGE_LIMIT bytes)) ended bytes
-unfolding first_piece needed
-first_long ended bytes is long =
-    let front : (more : List ℕ) → take MESSAGE_LIMIT (bytes ++ more) ≡ take MESSAGE_LIMIT bytes = λ more. take-append-le MESSAGE_LIMIT bytes more (omega arith) in
-    let longer : (more : List ℕ) → MESSAGE_LIMIT < length (bytes ++ more) = λ more. omega (arith, length-append bytes more) in
-    record {
-      first = λ more closed. sym (ap (λ w. piece_of true (bytes ++ more) (message_of w)) (front more) ∙ piece_long true (bytes ++ more) (window_message bytes) is (longer more) ∙ ap TooLong (front more));
-      read = λ more closed. let size : needed (bytes ++ more) ≡ MESSAGE_LIMIT + 1 = ap (λ w. needed_for (bytes ++ more) (message_of w)) (front more) ∙ needed_long (bytes ++ more) (window_message bytes) is (longer more) in
-          omega (arith, size, long);
-    }
-
--- the last piece of an input
-first_last : (bytes : List ℕ) (piece : Piece) → (window_message bytes).ended ≡ false → length bytes ≤ MESSAGE_LIMIT → first_piece true bytes ≡ piece → IsFirst piece true bytes
-unfolding first_piece needed
-first_last bytes piece is short shown =
-    let all : (more : List ℕ) → (IsTrue true → more ≡ []) → bytes ++ more ≡ bytes = λ more closed. ap (λ rest. bytes ++ rest) (closed refl) ∙ append-nil bytes in
-    record {
-      first = λ more closed. sym (ap (first_piece true) (all more closed) ∙ shown);
-      read = λ more closed. let size : needed (bytes ++ more) ≡ length bytes = ap needed (all more closed) ∙ needed_last bytes (window_message bytes) is short in omega (arith, size);
-    }
+drop_all : (bytes : List ℕ) → drop (length bytes) bytes ≡ []
+drop_all bytes = grind (arith, common_steps)
 
 -- ---- what the places show
 
@@ -117,24 +47,30 @@ module _ (ended : Bool) (bytes : List ℕ) (extent : Extent) (is : IsExtent (tak
   text_is : take (extent.end - extent.start) (drop extent.start bytes) ≡ (window_message bytes).text
   text_is = sym (is.text ∙ part_of_front bytes extent.start extent.end MESSAGE_LIMIT is.order (omega (arith, is.behind, is.within, window_length)))
 
-  -- a query, shown by its first piece
-  shows_query : first_piece ended bytes ≡ Query (window_message bytes).text → IsFirst (Query (window_message bytes).text) ended bytes → Shows ended bytes (found.Query extent)
-  unfolding first_piece
-  shows_query piece first = record {
-    next = record {
-      is = ap Query text_is ∙ sym piece;
-      first = λ _. subst (λ p. IsFirst p ended bytes) (sym (ap Query text_is)) first;
-      more = λ same. absurd (cc);
-    };
-    rest = ap (λ n. drop n bytes) is.size;
-    within = (is.order, is.behind, omega (arith, is.within, window_length));
+  -- the message that the places show
+  abbrev message_piece : Piece
+  message_piece = whole (window_message bytes).kind (window_message bytes).text
+
+  message_is : whole extent.kind (take (extent.end - extent.start) (drop extent.start bytes)) ≡ message_piece
+  message_is = ap (λ k. whole k (take (extent.end - extent.start) (drop extent.start bytes))) (sym is.kind) ∙ ap (whole (window_message bytes).kind) text_is
+
+  next_message : first_piece ended bytes ≡ message_piece → IsFirst message_piece ended bytes → IsNext ended bytes (whole extent.kind (take (extent.end - extent.start) (drop extent.start bytes)))
+  next_message piece first = record {
+    is = message_is ∙ sym piece;
+    first = λ _. subst (λ p. IsFirst p ended bytes) (sym message_is) first;
+    more = λ same. absurd (whole_not_more extent.kind _ same);
   }
 
-  pub shows_ended : extent.end < extent.next → Shows ended bytes (found.Query extent)
+  pub shows_ended : extent.end < extent.next → Shows ended bytes (found.Message extent)
   unfolding first_piece
   shows_ended low =
       let has : (window_message bytes).ended ≡ true = is.ended ∙ grind arith in
-      shows_query (piece_ended ended bytes (window_message bytes) has) (first_ended ended bytes has (omega (arith, is.size, is.within, window_length)))
+      let some : extent.kind ≡ message.Nothing → ⊥ = λ none. message_kind (take MESSAGE_LIMIT bytes) has (is.kind ∙ none) in
+      record {
+        next = next_message (piece_ended ended bytes (window_message bytes) has) (first_ended ended bytes has (omega (arith, is.size, is.within, window_length)));
+        rest = behind_message extent.kind _ bytes some ∙ behind_ended bytes (window_message bytes) has ∙ ap (λ n. drop n bytes) is.size;
+        within = (is.order, is.behind, omega (arith, is.within, window_length));
+      }
 
   not_ended : extent.next ≤ extent.end → (window_message bytes).ended ≡ false
   not_ended high = is.ended ∙ grind arith
@@ -163,33 +99,20 @@ module _ (ended : Bool) (bytes : List ℕ) (extent : Extent) (is : IsExtent (tak
     within = short;
   }
 
-  text_length : length (window_message bytes).text ≡ extent.end - extent.start
-  text_length = ap length (sym text_is) ∙ omega (arith, length-take (extent.end - extent.start) (drop extent.start bytes), length-drop extent.start bytes, is.order, is.behind, is.within, window_length)
-
   last_of : (piece : Piece) → extent.next ≤ extent.end → length bytes ≤ MESSAGE_LIMIT → ended ≡ true → first_piece ended bytes ≡ piece → IsFirst piece ended bytes
   unfolding first_piece
   last_of piece high short closed shown =
       subst (λ e. IsFirst piece e bytes) (sym closed) (first_last bytes piece (not_ended high) short (ap (λ e. first_piece e bytes) (sym closed) ∙ shown))
 
-  pub shows_last : extent.next ≤ extent.end → length bytes ≤ MESSAGE_LIMIT → ended ≡ true → (extent.start ≡ extent.end → ⊥) → Shows ended bytes (found.Query extent)
+  pub shows_last : extent.next ≤ extent.end → length bytes ≤ MESSAGE_LIMIT → ended ≡ true
+      → Shows ended bytes (found.Message (record { kind = extent.kind; start = extent.start; end = extent.end; next = length bytes }))
   unfolding first_piece
-  shows_last high short closed some =
-      let piece : first_piece ended bytes ≡ Query (window_message bytes).text =
-      piece_last ended bytes (window_message bytes) (not_ended high) short closed (omega (arith, text_length, is.order, some)) in
-      shows_query piece (last_of _ high short closed piece)
-
-  pub shows_empty : extent.next ≤ extent.end → length bytes ≤ MESSAGE_LIMIT → ended ≡ true → extent.start ≡ extent.end → Shows ended bytes (found.Empty (length bytes))
-  unfolding first_piece
-  shows_empty high short closed none =
-      let piece : first_piece ended bytes ≡ Empty = piece_empty ended bytes (window_message bytes) (not_ended high) short closed (omega (arith, text_length, none)) in
+  shows_last high short closed =
+      let piece : first_piece ended bytes ≡ message_piece = piece_last ended bytes (window_message bytes) (not_ended high) short closed in
       record {
-        next = record {
-          is = sym piece;
-          first = λ _. last_of Empty high short closed piece;
-          more = λ same. absurd (cc);
-        };
-        rest = grind (arith, common_steps);
-        within = omega arith;
+        next = next_message piece (last_of message_piece high short closed piece);
+        rest = behind_last extent.kind _ bytes (not_ended high) ∙ sym (drop_all bytes);
+        within = (is.order, omega (arith, is.behind, is.within, window_length), omega arith);
       }
 
 -- ---- the buffer
@@ -213,9 +136,8 @@ held_part buffer start end from to low high =
     ∙ sym (part_of_front (drop start buffer) from to (end - start) low small)
 
 taken_within : (bytes : List ℕ) (place : Found) → IsWithin bytes place → taken_by place ≤ length bytes
-taken_within bytes (found.Query extent) within = within.2
+taken_within bytes (found.Message extent) within = within.2
 taken_within bytes found.TooLong within = within
-taken_within bytes (found.Empty size) within = within
 taken_within bytes found.More within = omega arith
 
 -- `held` is what the buffer has between two places, which contracts see as `now`

@@ -16,13 +16,17 @@ passes_first kind line lines pass = ap concat (take_while-cons (is_line_of kind)
 pub fails_first : (kind : LineKind) (line : List ℕ) (lines : List (List ℕ)) → is_line_of kind line ≡ false → concat (take_while (is_line_of kind) (line ∷ lines)) ≡ []
 fails_first kind line lines fail = ap concat (take_while-cons (is_line_of kind) line lines ∙ ap (λ b. cond b (line ∷ take_while (is_line_of kind) lines) []) fail)
 
--- the first line's text is as long as the places say
-pub text_length_at : (bytes : List ℕ) (at end next : ℕ) → IsLineAt bytes at end next → length (line_text (take (next - at) (drop at bytes))) ≡ end - at
-text_length_at bytes at end next line =
+-- the first line's text is what the places say
+pub text_at : (bytes : List ℕ) (at end next : ℕ) → IsLineAt bytes at end next → line_text (take (next - at) (drop at bytes)) ≡ take (end - at) (drop at bytes)
+text_at bytes at end next line =
     let texts : line_text (take (next - at) (drop at bytes)) ∷ lines_of (drop next bytes) ≡ take (end - at) (drop at bytes) ∷ lines_of (drop next bytes) =
     sym (ap (map line_text) line.whole) ∙ line.lines in
-    let text : line_text (take (next - at) (drop at bytes)) ≡ take (end - at) (drop at bytes) = cc in
-    ap length text ∙ grind (arith, common_steps, line.order, line.within, line.text)
+    cc
+
+-- and is as long
+pub text_length_at : (bytes : List ℕ) (at end next : ℕ) → IsLineAt bytes at end next → length (line_text (take (next - at) (drop at bytes))) ≡ end - at
+text_length_at bytes at end next line =
+    ap length (text_at bytes at end next line) ∙ grind (arith, common_steps, line.order, line.within, line.text)
 
 -- up to a place, and from there to a later one
 take_parts : (bytes : List ℕ) (i j : ℕ) → i ≤ j → take j bytes ≡ take i bytes ++ take (j - i) (drop i bytes)

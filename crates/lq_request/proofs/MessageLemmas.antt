@@ -1,5 +1,5 @@
 -- A message that has ended stays the first one, whatever bytes follow.
-use Rattle.std.proofs.Common.{◌≡◌, ℕ, zero, suc, ◌+◌, ◌<◌, ◌≤◌, ◌==◌, nat_lt, Bool, true, false, cond, List, [], ◌∷◌, ◌++◌, length, take, drop, slice_index, refl, sym, ap, ◌∙◌, subst, arith, append-nil, length-drop, length-append}
+use Rattle.std.proofs.Common.{◌≡◌, ℕ, zero, suc, ◌+◌, ◌-◌, ◌<◌, ◌≤◌, ◌==◌, nat_lt, Bool, true, false, cond, List, [], ◌∷◌, ◌++◌, length, take, drop, slice_index, refl, sym, ap, ◌∙◌, subst, arith, append-nil, length-drop, length-append}
 use Rattle.std.specs.List.{concat, take_while, position_or_len}
 use Rattle.std.proofs.lemmas.Bool.{eqb-true, eqb-false, ltb-true, cases_Bool, cases_lt}
 use Rattle.std.proofs.Math.Logic.{⊎_elim}
@@ -8,9 +8,10 @@ use Rattle.std.proofs.lemmas.List.Sums.{take_while-cons, passes_at_first, fails_
 use Rattle.std.proofs.lemmas.Grind.{common_steps}
 use Rattle.lq_text.specs.Lines.{whole_lines, line_text}
 use Rattle.lq_text.proofs.LineLemmas.{whole_lines-append, whole_to_end, text_to_end}
-use Rattle.lq_request.specs.Messages.{front_lines, is_line_of, one_empty_line, message_from, message_of}
+use Rattle.lq_request.specs.Messages.{command_from, front_lines, has_feed, is_command, is_line_of, message_at, message_of, one_empty_line, query_from}
 use Rattle.lq_request.specs.declared.extent.LineKind.{LineKind}
 use Rattle.lq_request.specs.declared.extent.LineKind.TheVariants as kind
+use Rattle.lq_request.specs.declared.extent.MessageKind.TheVariants as message
 use Rattle.lq_request.proofs.FrontLemmas.{passes_first, fails_first}
 
 -- ---- where a line feed stands
@@ -112,29 +113,121 @@ empty_line_has_feed (byte ∷ bytes) some =
 within_of : (k : ℕ) (bytes : List ℕ) → HasFeed (drop k bytes) → k ≤ length bytes
 within_of k bytes has = let within : feed_place (drop k bytes) < length (drop k bytes) = has.within in omega (arith, length-drop k bytes)
 
+-- a first line with its line feed
+line_has_feed : (bytes line : List ℕ) (lines : List (List ℕ)) → whole_lines bytes ≡ line ∷ lines → has_feed line ≡ true → HasFeed bytes
+line_has_feed [] line lines whole is = absurd (cc)
+line_has_feed (byte ∷ bytes) line lines whole is =
+    let all : List ℕ = byte ∷ bytes in
+    ⊎_elim (λ low. record { within = low }) (λ high.
+    let none : (k : ℕ) → k < length all → slice_index all k ≡ 10 → ⊥ =
+    λ k low here. eqb-false _ _ (fails_before_first (λ b. b == 10) all k 0 (omega (arith, high, low))) here in
+    let alone : whole_lines all ≡ all ∷ [] = whole_to_end all (omega arith) none in
+    let same : line ≡ all = cc in
+    absurd (none (length all - 1) (omega arith) (eqb-true _ _ (subst (λ l. has_feed l ≡ true) same is))))
+    (cases_lt (feed_place all) (length all))
+
 -- ---- messages
 
-message_from_same : (before : ℕ) (text bytes more : List ℕ) → one_empty_line (drop (before + length text) more) ≡ one_empty_line (drop (before + length text) bytes)
-    → message_from before text more ≡ message_from before text bytes
-message_from_same before text bytes more same =
-    ap (λ line. record { text = text; size = before + length text + length line; ended = nat_lt 0 (length line) }) same
+pub message_command : (before : ℕ) (line : List ℕ) (lines : List (List ℕ)) (bytes : List ℕ) → is_command (line_text line) ≡ true
+    → message_at before (line ∷ lines) bytes ≡ command_from before line
+message_command before line lines bytes is = rw is refl
+
+pub message_query : (before : ℕ) (line : List ℕ) (lines : List (List ℕ)) (bytes : List ℕ) → is_command (line_text line) ≡ false
+    → message_at before (line ∷ lines) bytes ≡ query_from before (front_lines kind.Text (drop before bytes)) bytes
+message_query before line lines bytes is = rw is refl
+
+-- the end of a query is behind a line feed
+query_feed : (before : ℕ) (text bytes : List ℕ) → (query_from before text bytes).ended ≡ true → HasFeed (drop (length text) (drop before bytes))
+query_feed before text bytes ended = subst HasFeed (sym (drop-drop (length text) before bytes)) (empty_line_has_feed _ (ltb-true _ _ ended))
+
+-- a message that has ended has a line feed
+ended_feed : (before : ℕ) (bytes : List ℕ) (lines : List (List ℕ)) → whole_lines (drop before bytes) ≡ lines
+    → (message_at before lines bytes).ended ≡ true → HasFeed (drop before bytes)
+ended_feed before bytes [] whole ended = absurd (cc)
+ended_feed before bytes (line ∷ lines) whole ended = ⊎_elim
+    (λ command. line_has_feed (drop before bytes) line lines whole (ap (λ m. m.ended) (sym (message_command before line lines bytes command)) ∙ ended))
+    (λ other. has_feed-drop _ (drop before bytes)
+    (query_feed before (front_lines kind.Text (drop before bytes)) bytes (ap (λ m. m.ended) (sym (message_query before line lines bytes other)) ∙ ended)))
+    (cases_Bool (is_command (line_text line)))
+
+query_from_same : (before : ℕ) (text bytes more : List ℕ) → one_empty_line (drop (before + length text) more) ≡ one_empty_line (drop (before + length text) bytes)
+    → query_from before text more ≡ query_from before text bytes
+query_from_same before text bytes more same =
+    ap (λ line. record { kind = message.Query; text = text; size = before + length text + length line; ended = nat_lt 0 (length line) }) same
+
+-- a query that has ended stays, whatever follows
+query_stable : (before : ℕ) (bytes more : List ℕ) → before ≤ length bytes → (query_from before (front_lines kind.Text (drop before bytes)) bytes).ended ≡ true
+    → query_from before (front_lines kind.Text (drop before (bytes ++ more))) (bytes ++ more) ≡ query_from before (front_lines kind.Text (drop before bytes)) bytes
+query_stable before bytes more within ended =
+    let text : List ℕ = front_lines kind.Text (drop before bytes) in
+    let own : HasFeed (drop (length text) (drop before bytes)) = query_feed before text bytes ended in
+    let closing : HasFeed (drop (before + length text) bytes) = subst HasFeed (drop-drop (length text) before bytes) own in
+    let behind : drop before (bytes ++ more) ≡ drop before bytes ++ more = drop-append-le before bytes more within in
+    let texts : front_lines kind.Text (drop before (bytes ++ more)) ≡ text =
+    ap (front_lines kind.Text) behind ∙ front_stable kind.Text (length (drop before bytes)) (drop before bytes) more (omega arith) own in
+    let last : one_empty_line (drop (before + length text) (bytes ++ more)) ≡ one_empty_line (drop (before + length text) bytes) =
+    ap one_empty_line (drop-append-le (before + length text) bytes more (within_of _ bytes closing)) ∙ one_stable _ more closing in
+    ap (λ own. query_from before own (bytes ++ more)) texts ∙ query_from_same before text bytes (bytes ++ more) last
 
 -- a message that has ended stays, whatever follows
 pub message_stable : (bytes more : List ℕ) → (message_of bytes).ended ≡ true → message_of (bytes ++ more) ≡ message_of bytes
 unfolding message_of
 message_stable bytes more ended =
     let before : ℕ = length (front_lines kind.Empty bytes) in
-    let text : List ℕ = front_lines kind.Text (drop before bytes) in
-    let closing : HasFeed (drop (before + length text) bytes) = empty_line_has_feed _ (ltb-true _ _ ended) in
-    let own : HasFeed (drop (length text) (drop before bytes)) = subst HasFeed (sym (drop-drop (length text) before bytes)) closing in
-    let first : HasFeed (drop before bytes) = has_feed-drop (length text) _ own in
+    let rest : List ℕ = drop before bytes in
+    let first : HasFeed rest = ended_feed before bytes (whole_lines rest) refl ended in
+    let line : List ℕ = take (feed_place rest + 1) rest in
+    let later : List ℕ = drop (feed_place rest + 1) rest in
     let empty : front_lines kind.Empty (bytes ++ more) ≡ front_lines kind.Empty bytes = front_stable kind.Empty (length bytes) bytes more (omega arith) first in
-    let low : before + length text ≤ length bytes = within_of _ bytes closing in
-    let behind : drop before (bytes ++ more) ≡ drop before bytes ++ more = drop-append-le before bytes more (omega arith) in
-    let texts : front_lines kind.Text (drop before (bytes ++ more)) ≡ text =
-    ap (front_lines kind.Text) behind ∙ front_stable kind.Text (length (drop before bytes)) (drop before bytes) more (omega arith) own in
-    let last : one_empty_line (drop (before + length text) (bytes ++ more)) ≡ one_empty_line (drop (before + length text) bytes) =
-    ap one_empty_line (drop-append-le (before + length text) bytes more low) ∙ one_stable _ more closing in
-    ap (λ n. message_from n (front_lines kind.Text (drop n (bytes ++ more))) (bytes ++ more)) (ap length empty)
-    ∙ ap (λ own. message_from before own (bytes ++ more)) texts
-    ∙ message_from_same before text bytes (bytes ++ more) last
+    let low : before ≤ length bytes = within_of before bytes first in
+    let lines : whole_lines (drop before (bytes ++ more)) ≡ line ∷ whole_lines (later ++ more) =
+    ap whole_lines (drop-append-le before bytes more low) ∙ first_line_of rest more first in
+    let long : message_of (bytes ++ more) ≡ message_at before (line ∷ whole_lines (later ++ more)) (bytes ++ more) =
+    ap (λ n. message_at n (whole_lines (drop n (bytes ++ more))) (bytes ++ more)) (ap length empty) ∙ ap (λ l. message_at before l (bytes ++ more)) lines in
+    let short : message_of bytes ≡ message_at before (line ∷ whole_lines later) bytes = ap (λ l. message_at before l bytes) (first_line_alone rest first) in
+    ⊎_elim
+    (λ command. long ∙ message_command before line (whole_lines (later ++ more)) (bytes ++ more) command
+    ∙ sym (short ∙ message_command before line (whole_lines later) bytes command))
+    (λ other. let is : message_of bytes ≡ query_from before (front_lines kind.Text rest) bytes = short ∙ message_query before line (whole_lines later) bytes other in
+    long ∙ message_query before line (whole_lines (later ++ more)) (bytes ++ more) other
+    ∙ query_stable before bytes more low (ap (λ m. m.ended) (sym is) ∙ ended) ∙ sym is)
+    (cases_Bool (is_command (line_text line)))
+
+-- ---- how a message takes bytes
+
+-- a message that has ended takes some
+size_at : (before : ℕ) (bytes : List ℕ) (lines : List (List ℕ)) → (message_at before lines bytes).ended ≡ true → 0 < (message_at before lines bytes).size
+size_at before bytes [] ended = absurd (cc)
+size_at before bytes ([] ∷ lines) ended = ⊎_elim
+    (λ command. absurd (let is = ap (λ m. m.ended) (sym (message_command before [] lines bytes command)) ∙ ended in cc))
+    (λ other. let is = message_query before [] lines bytes other in
+    let some = ltb-true 0 (length (one_empty_line (drop (before + length (front_lines kind.Text (drop before bytes))) bytes))) (ap (λ m. m.ended) (sym is) ∙ ended) in
+    subst (λ m. 0 < m.size) (sym is) (omega (arith, some)))
+    (cases_Bool (is_command (line_text [])))
+size_at before bytes ((byte ∷ line) ∷ lines) ended = ⊎_elim
+    (λ command. subst (λ m. 0 < m.size) (sym (message_command before (byte ∷ line) lines bytes command)) (omega arith))
+    (λ other. let is = message_query before (byte ∷ line) lines bytes other in
+    let some = ltb-true 0 (length (one_empty_line (drop (before + length (front_lines kind.Text (drop before bytes))) bytes))) (ap (λ m. m.ended) (sym is) ∙ ended) in
+    subst (λ m. 0 < m.size) (sym is) (omega (arith, some)))
+    (cases_Bool (is_command (line_text (byte ∷ line))))
+
+pub message_size : (bytes : List ℕ) → (message_of bytes).ended ≡ true → 0 < (message_of bytes).size
+unfolding message_of
+message_size bytes ended = size_at _ bytes _ ended
+
+-- and has a kind
+kind_at : (before : ℕ) (bytes : List ℕ) (lines : List (List ℕ)) → (message_at before lines bytes).ended ≡ true → (message_at before lines bytes).kind ≡ message.Nothing → ⊥
+kind_at before bytes [] ended is = absurd (cc)
+kind_at before bytes (line ∷ lines) ended is = ⊎_elim
+    (λ command. let other = ap (λ m. m.kind) (sym (message_command before line lines bytes command)) ∙ is in cc)
+    (λ query. let other = ap (λ m. m.kind) (sym (message_query before line lines bytes query)) ∙ is in cc)
+    (cases_Bool (is_command (line_text line)))
+
+pub message_kind : (bytes : List ℕ) → (message_of bytes).ended ≡ true → (message_of bytes).kind ≡ message.Nothing → ⊥
+unfolding message_of
+message_kind bytes ended is = kind_at _ bytes _ ended is
+
+-- no bytes are no message
+pub message_none : message_of [] ≡ record { kind = message.Nothing; text = []; size = 0; ended = false }
+unfolding message_of
+message_none = refl

@@ -1,46 +1,37 @@
 -- What a call of `next_message` shows, and what it leaves.
-use Rattle.std.specs.Prelude.{◌≡◌, ℕ, Bool, ◌-◌, ◌≤◌, List, [], take, drop, length}
+use Rattle.std.specs.Prelude.{◌≡◌, ℕ, Bool, ◌-◌, ◌≤◌, List, take, drop, length}
 use Rattle.lq_request.specs.declared.cut.TheConstants.{MESSAGE_LIMIT}
 use Rattle.lq_request.specs.declared.cut.Cutting.{Cutting}
 use Rattle.lq_request.specs.declared.cut.Cutting.TheVariants as cutting
 use Rattle.lq_request.specs.declared.cut.Found.{Found}
 use Rattle.lq_request.specs.declared.cut.Found.TheVariants as found
-use Rattle.lq_request.specs.Messages.{Piece, Query, TooLong, Empty, More, message_of, IsNext}
+use Rattle.lq_request.specs.Messages.{Piece, Query, Command, TooLong, Empty, More, whole, rest_behind, IsNext}
 
 -- the piece, without where it lies in memory
 abbrev pub shown : Cutting → Piece
 shown (cutting.Query text) = Query text.now
+shown (cutting.Command text) = Command text.now
 shown (cutting.TooLong bytes) = TooLong bytes.now
 shown cutting.Empty = Empty
 shown cutting.More = More
-
--- the bytes behind a piece; where more are wanted, all of them
-abbrev pub rest_behind : Piece → List ℕ → List ℕ
-rest_behind (Query text) bytes = drop (message_of (take MESSAGE_LIMIT bytes)).size bytes
-rest_behind (TooLong front) bytes = drop MESSAGE_LIMIT bytes
-rest_behind Empty bytes = []
-rest_behind More bytes = bytes
 
 -- ---- by places
 
 -- the piece that the places show
 abbrev pub found_piece : List ℕ → Found → Piece
-found_piece bytes (found.Query extent) = Query (take (extent.end - extent.start) (drop extent.start bytes))
+found_piece bytes (found.Message extent) = whole extent.kind (take (extent.end - extent.start) (drop extent.start bytes))
 found_piece bytes found.TooLong = TooLong (take MESSAGE_LIMIT bytes)
-found_piece bytes (found.Empty size) = Empty
 found_piece bytes found.More = More
 
 abbrev pub taken_by : Found → ℕ
-taken_by (found.Query extent) = extent.next
+taken_by (found.Message extent) = extent.next
 taken_by found.TooLong = MESSAGE_LIMIT
-taken_by (found.Empty size) = size
 taken_by found.More = 0
 
 -- the places are within the bytes
 abbrev pub IsWithin : List ℕ → Found → Type 0
-IsWithin bytes (found.Query extent) = (extent.start ≤ extent.end) × (extent.end ≤ extent.next) × (extent.next ≤ length bytes)
+IsWithin bytes (found.Message extent) = (extent.start ≤ extent.end) × (extent.end ≤ extent.next) × (extent.next ≤ length bytes)
 IsWithin bytes found.TooLong = MESSAGE_LIMIT ≤ length bytes
-IsWithin bytes (found.Empty size) = size ≤ length bytes
 IsWithin bytes found.More = length bytes ≤ MESSAGE_LIMIT
 
 -- the places show what stands first in the bytes

@@ -1,10 +1,15 @@
 -- How the bytes of a connection fall into messages.
-use Rattle.std.specs.Prelude.{◌≡◌, ◌≢◌, ℕ, ◌+◌, ◌≤◌, ◌==◌, nat_lt, Bool, true, false, not, List, [], ◌++◌, length, take, drop, IsTrue, if◌then◌else◌}
+use Rattle.std.specs.Prelude.{◌≡◌, ◌≢◌, ℕ, zero, suc, ◌+◌, ◌-◌, ◌<◌, ◌≤◌, ◌==◌, nat_lt, Bool, true, false, not, ◌&&◌, List, [], ◌∷◌, ◌++◌, length, take, drop, bytes_eq, codes, slice_index, IsTrue, if◌then◌else◌}
 use Rattle.std.specs.List.{concat, take_while}
+use Rattle.lq_text.specs.Blanks.{is_blank, without_front}
 use Rattle.lq_text.specs.Lines.{whole_lines, line_text}
 use Rattle.lq_request.specs.declared.cut.TheConstants.{MESSAGE_LIMIT}
 use Rattle.lq_request.specs.declared.extent.LineKind.{LineKind}
 use Rattle.lq_request.specs.declared.extent.LineKind.TheVariants as kind
+use Rattle.lq_request.specs.declared.extent.MessageKind.{MessageKind}
+use Rattle.lq_request.specs.declared.extent.MessageKind.TheVariants as message
+
+-- ---- lines
 
 -- whether a line is of a kind: without text, or with some
 abbrev pub is_line_of : LineKind → List ℕ → Bool
@@ -19,49 +24,139 @@ front_lines kind bytes = concat (take_while (is_line_of kind) (whole_lines bytes
 abbrev pub one_empty_line : List ℕ → List ℕ
 one_empty_line bytes = concat (take 1 (take_while (is_line_of kind.Empty) (whole_lines bytes)))
 
--- A message at the front of the bytes: its lines; how many bytes it takes, with the empty lines before
--- it and the one behind it; and whether the empty line that ends it has come.
+-- whether a line has its line feed
+abbrev pub has_feed : List ℕ → Bool
+has_feed line = slice_index line (length line - 1) == 10
+
+-- ---- commands
+
+-- a word ends where nothing follows it, or a blank
+abbrev pub ends_word : List ℕ → Bool
+ends_word [] = true
+ends_word (byte ∷ bytes) = is_blank byte
+
+-- a command's line is `COMMAND`, or begins with `COMMAND` and a blank
+unfoldable pub is_command : List ℕ → Bool
+is_command line = bytes_eq (take 7 line) (codes "COMMAND") && ends_word (drop 7 line)
+
+-- a command's text stands behind the word and the blanks behind it
+unfoldable pub command_text : List ℕ → List ℕ
+command_text line = without_front (drop 7 line)
+
+-- ---- a message
+
+-- A message at the front of the bytes: its kind; the lines of a query, or the text of a command;
+-- whether its end has come; and how many bytes it then takes, with the empty lines before it and the
+-- one that ends a query.
 pub record Message : Type 0 where
+  pub kind : MessageKind
   pub text : List ℕ
   pub size : ℕ
   pub ended : Bool
 
-abbrev pub message_from : ℕ → List ℕ → List ℕ → Message
-message_from before text bytes = record {
+-- a command is one line, which ends with its line feed
+abbrev pub command_from : ℕ → List ℕ → Message
+command_from before line = record {
+  kind = message.Command;
+  text = command_text (line_text line);
+  size = before + length line;
+  ended = has_feed line;
+}
+
+-- a query has lines with text, and ends with an empty line
+abbrev pub query_from : ℕ → List ℕ → List ℕ → Message
+query_from before text bytes = record {
+  kind = message.Query;
   text = text;
   size = before + length text + length (one_empty_line (drop (before + length text) bytes));
   ended = nat_lt 0 (length (one_empty_line (drop (before + length text) bytes)));
 }
 
+abbrev pub no_message : ℕ → Message
+no_message before = record { kind = message.Nothing; text = []; size = before; ended = false }
+
+-- the first of the lines behind the empty ones tells the kind
+abbrev pub message_at : ℕ → List (List ℕ) → List ℕ → Message
+message_at before [] bytes = no_message before
+message_at before (line ∷ lines) bytes =
+    if is_command (line_text line) then command_from before line
+    else query_from before (front_lines kind.Text (drop before bytes)) bytes
+
 unfoldable pub message_of : List ℕ → Message
 message_of bytes =
     let before : ℕ = length (front_lines kind.Empty bytes) in
-    message_from before (front_lines kind.Text (drop before bytes)) bytes
+    message_at before (whole_lines (drop before bytes)) bytes
+
+-- ---- pieces
 
 -- What stands first in the bytes of a connection.
 pub data Piece : Type 0 where
   Query : List ℕ → Piece
+  Command : List ℕ → Piece
   TooLong : List ℕ → Piece
   Empty : Piece
   More : Piece
 
+-- a whole message
+abbrev pub whole : MessageKind → List ℕ → Piece
+whole message.Query text = Query text
+whole message.Command text = Command text
+whole message.Nothing text = Empty
+
 -- A message has to end within its first 65,536 bytes where the bytes go on past them. `ended` says
 -- that no more bytes come.
 abbrev pub piece_of : Bool → List ℕ → Message → Piece
-piece_of ended bytes message =
-    if message.ended then Query message.text
+piece_of ended bytes first =
+    if first.ended then whole first.kind first.text
     else if nat_lt MESSAGE_LIMIT (length bytes) then TooLong (take MESSAGE_LIMIT bytes)
     else if not ended then More
-    else if length message.text == 0 then Empty
-    else Query message.text
+    else whole first.kind first.text
 
 unfoldable pub first_piece : Bool → List ℕ → Piece
 first_piece ended bytes = piece_of ended bytes (message_of (take MESSAGE_LIMIT bytes))
 
+-- the bytes behind a message; one without its end takes all
+abbrev pub behind : List ℕ → Message → List ℕ
+behind bytes first = if first.ended then drop first.size bytes else []
+
+-- the bytes behind the first piece; where more are wanted, all of them
+abbrev pub rest_behind : Piece → List ℕ → List ℕ
+rest_behind (Query text) bytes = behind bytes (message_of (take MESSAGE_LIMIT bytes))
+rest_behind (Command text) bytes = behind bytes (message_of (take MESSAGE_LIMIT bytes))
+rest_behind (TooLong front) bytes = drop MESSAGE_LIMIT bytes
+rest_behind Empty bytes = []
+rest_behind More bytes = bytes
+
+-- ---- all messages, in order
+
+-- a piece and the messages behind it; behind one that is too long there is none
+abbrev pub before : Piece → List Piece → List Piece
+before (Query text) later = Query text ∷ later
+before (Command text) later = Command text ∷ later
+before (TooLong front) later = TooLong front ∷ []
+before Empty later = []
+before More later = []
+
+-- the first messages of the bytes, at most so many
+unfoldable pub messages_up_to : Bool → ℕ → List ℕ → List Piece
+messages_up_to ended zero bytes = []
+messages_up_to ended (suc most) bytes =
+    before (first_piece ended bytes) (messages_up_to ended most (rest_behind (first_piece ended bytes) bytes))
+
+-- the messages of a whole input: each takes a byte at least
+unfoldable pub messages : List ℕ → List Piece
+messages input = messages_up_to true (length input) input
+
+-- the messages whose end stands in the bytes, where more bytes may come
+unfoldable pub whole_messages : List ℕ → List Piece
+whole_messages bytes = messages_up_to false (length bytes) bytes
+
+-- ---- what a cutter shows
+
 -- how many bytes of a whole input show its first piece
 abbrev pub needed_for : List ℕ → Message → ℕ
-needed_for input message =
-    if message.ended then message.size
+needed_for input first =
+    if first.ended then first.size
     else if nat_lt MESSAGE_LIMIT (length input) then MESSAGE_LIMIT + 1
     else length input
 
@@ -79,3 +174,23 @@ pub record IsNext (ended : Bool) (held : List ℕ) (piece : Piece) : Type 0 wher
   pub is : piece ≡ first_piece ended held
   pub first : piece ≢ More → IsFirst piece ended held
   pub more : piece ≡ More → (ended ≡ false) × (length held ≤ MESSAGE_LIMIT)
+
+-- The message is the first one of the input, and of those that are known to be whole, before those of
+-- what is left, however the input goes on. Less is left than was held.
+pub record IsCutOff (ended : Bool) (held : List ℕ) (piece : Piece) (left : List ℕ) : Type 0 where
+  pub all : (rest : List ℕ) → (IsTrue ended → rest ≡ []) → messages (held ++ rest) ≡ piece ∷ messages (left ++ rest)
+  pub known : (rest : List ℕ) → ended ≡ false → whole_messages (held ++ rest) ≡ piece ∷ whole_messages (left ++ rest)
+  pub fewer : length left < length held
+
+-- The too long message is the last one of the input, however it goes on.
+pub record IsLast (ended : Bool) (held : List ℕ) (piece : Piece) : Type 0 where
+  pub all : (rest : List ℕ) → (IsTrue ended → rest ≡ []) → messages (held ++ rest) ≡ piece ∷ []
+  pub known : (rest : List ℕ) → ended ≡ false → whole_messages (held ++ rest) ≡ piece ∷ []
+
+-- Pieces come in the order of the messages: `left` is what is held behind the piece.
+abbrev pub IsInOrder : Bool → List ℕ → Piece → List ℕ → Type 0
+IsInOrder ended held (Query text) left = IsCutOff ended held (Query text) left
+IsInOrder ended held (Command text) left = IsCutOff ended held (Command text) left
+IsInOrder ended held (TooLong front) left = IsLast ended held (TooLong (take MESSAGE_LIMIT held))
+IsInOrder ended held Empty left = messages held ≡ []
+IsInOrder ended held More left = whole_messages held ≡ []

@@ -1,5 +1,5 @@
 -- What a message asks, or why it is refused.
-use Rattle.std.specs.Prelude.{ℕ, ◌+◌, nat_lt, Bool, true, false, not, Option, Some, None, is_none, Result, Ok, Err, List, [], ◌∷◌, ◌++◌, take, drop, find, bytes_eq, codes, position, ◌==◌, if◌then◌else◌}
+use Rattle.std.specs.Prelude.{ℕ, ◌+◌, nat_lt, Bool, true, false, not, Option, Some, None, is_none, Result, Ok, Err, List, [], ◌∷◌, ◌++◌, take, drop, find, bytes_eq, codes, position, if◌then◌else◌}
 use Rattle.std.specs.List.{filter_map}
 use Rattle.std.specs.Str.{is_utf8}
 use Rattle.lq_text.specs.Lines.{lines_of}
@@ -9,7 +9,9 @@ use Rattle.lq_records.specs.declared.columns.Col.{Col}
 use Rattle.lq_records.specs.declared.columns.Table.{Table}
 use Rattle.lq_records.specs.declared.refusal.Refusal.{Refusal}
 use Rattle.lq_request.specs.declared.request.Request.{Request}
+use Rattle.lq_request.specs.declared.style.Style.{Style}
 use Rattle.lq_request.specs.declared.header.TheConstants.{MOST_HEADERS}
+use Rattle.lq_request.specs.Style.{is_colon, switch_value, style_of}
 
 -- ---- refusals
 
@@ -83,11 +85,16 @@ abbrev pub columns_value : Table → List (List ℕ) → Result (List Col) Refus
 columns_value table [] = Err (bad_value (codes "Columns"))
 columns_value table (word ∷ words) = columns_of_words table (word ∷ words)
 
-abbrev pub header : Table → List ℕ → List ℕ → Result (List Col) Refusal
-header table name value = if bytes_eq name (codes "Columns") then columns_value table (words_of value) else Err (unknown_header name)
+-- the value of `KeepAlive` is a switch, and names no columns
+abbrev pub keep_columns : Option Bool → Result (List Col) Refusal
+keep_columns None = Err (bad_value (codes "KeepAlive"))
+keep_columns (Some keep) = Ok []
 
-abbrev pub is_colon : ℕ → Bool
-is_colon byte = byte == 58
+unfoldable pub header : Table → List ℕ → List ℕ → Result (List Col) Refusal
+header table name value =
+    if bytes_eq name (codes "Columns") then columns_value table (words_of value)
+    else if bytes_eq name (codes "KeepAlive") then keep_columns (switch_value value)
+    else Err (unknown_header name)
 
 -- a name goes up to the first colon, the value follows it
 abbrev pub header_at : Table → List ℕ → Option ℕ → Result (List Col) Refusal
@@ -114,22 +121,35 @@ header_lines table number [] = Ok []
 header_lines table number (line ∷ lines) = with_columns (header_line table number line) (header_lines table (number + 1) lines)
 
 -- a request without a `Columns` line asks for all columns, with a line of their names
-abbrev pub request_of : Table → List Col → Request
-request_of table [] = record { table = table; columns = columns_of table; head = true }
-request_of table (column ∷ columns) = record { table = table; columns = column ∷ columns; head = false }
+abbrev pub request_of : Style → Table → List Col → Request
+request_of style table [] = record { table = table; columns = columns_of table; head = true; fixed16 = style.fixed16; keep = style.keep }
+request_of style table (column ∷ columns) = record { table = table; columns = column ∷ columns; head = false; fixed16 = style.fixed16; keep = style.keep }
 
-abbrev pub asked_columns : Table → Result (List Col) Refusal → Result Request Refusal
-asked_columns table (Err fault) = Err fault
-asked_columns table (Ok columns) = Ok (request_of table columns)
+abbrev pub asked_columns : Style → Table → Result (List Col) Refusal → Result Request Refusal
+asked_columns style table (Err fault) = Err fault
+asked_columns style table (Ok columns) = Ok (request_of style table columns)
 
-abbrev pub asked_headers : List (List ℕ) → Result Table Refusal → Result Request Refusal
-asked_headers headers (Err fault) = Err fault
-asked_headers headers (Ok table) = asked_columns table (header_lines table 1 headers)
+abbrev pub asked_headers : Style → List (List ℕ) → Result Table Refusal → Result Request Refusal
+asked_headers style headers (Err fault) = Err fault
+asked_headers style headers (Ok table) = asked_columns style table (header_lines table 1 headers)
 
-abbrev pub asked_lines : List (List ℕ) → Result Request Refusal
-asked_lines [] = Err invalid_request
-asked_lines (first ∷ headers) = asked_headers headers (first_line first)
+abbrev pub asked_lines : Style → List (List ℕ) → Result Request Refusal
+asked_lines style [] = Err invalid_request
+asked_lines style (first ∷ headers) = asked_headers style headers (first_line first)
 
--- what a message asks, or its refusal
-unfoldable pub asked : List ℕ → Result Request Refusal
-asked message = asked_lines (lines_of message)
+-- what a message asks, replied to in a style
+unfoldable pub asked_in : Style → List ℕ → Result Request Refusal
+asked_in style message = asked_lines style (lines_of message)
+
+-- A refusal, and the style of the reply that tells it.
+pub record Refused : Type 0 where
+  pub refusal : Refusal
+  pub style : Style
+
+abbrev pub with_style : Style → Result Request Refusal → Result Request Refused
+with_style style (Ok request) = Ok request
+with_style style (Err fault) = Err (record { refusal = fault; style = style })
+
+-- what a message asks, or its refusal; both have the message's style
+unfoldable pub asked : List ℕ → Result Request Refused
+asked message = with_style (style_of message) (asked_in (style_of message) message)

@@ -1,9 +1,9 @@
 ghost use Rattle.std.specs.Prelude.{◌≡◌, ◌≢◌, ℕ, ◌+◌, ◌-◌, ◌<◌, ◌≤◌, List, [], ◌++◌, length, take, drop, false, vec_len, IfOk};
-ghost use Rattle.lq_request.specs.Cutting.{rest_behind, shown, Shows, taken_by};
-ghost use Rattle.lq_request.specs.Messages.{IsNext};
+ghost use Rattle.lq_request.specs.Cutting.{shown, Shows, taken_by};
+ghost use Rattle.lq_request.specs.Messages.{IsInOrder, IsNext, rest_behind, whole};
 ghost use Rattle.lq_request.specs.declared.cut.TheConstants.{CAPACITY, MESSAGE_LIMIT};
 
-use crate::extent::{Extent, extent_of};
+use crate::extent::{Extent, MessageKind, extent_of};
 use lq_records::Memory;
 use std::alloc::Global;
 use std::marker::Model;
@@ -19,6 +19,8 @@ const CAPACITY: usize = 65_537;
 pub enum Cutting<'a> {
     /// The lines of a query, without the empty lines before it and the empty line that ends it.
     Query(&'a [u8]),
+    /// The text of a command: what stands in its line behind `COMMAND` and the blanks behind that.
+    Command(&'a [u8]),
     /// No message is whole, and more bytes may come.
     More,
     /// No message is left.
@@ -93,6 +95,7 @@ impl Cut {
     /// Cuts off what stands first; `ended` says that no more bytes come. `More` leaves all as it was.
     pub fn next_message(&mut self, ended: bool) -> Cutting<'_>
         ensures next { IsNext ended self.old (shown result) }
+        ensures order { IsInOrder ended self.old (shown result) (rest_behind (shown result) self.old) }
         ensures* rest { sem 𝓛 (follows_so the_row the_row self.entry.ghost_name none (λ _ _. ⊤)
             (λ held. held ≡ rest_behind (shown result) self.old)) }
     {
@@ -100,22 +103,32 @@ impl Cut {
         let start = self.start;
         self.start = start + found.taken();
         match found {
-            Found::Query(extent) => Cutting::Query(
+            Found::Message(extent) => message(
+                extent.kind,
                 &self.buffer[start + extent.start..start + extent.end],
             ),
             Found::TooLong => Cutting::TooLong(&self.buffer[start..start + MESSAGE_LIMIT]),
-            Found::Empty(_) => Cutting::Empty,
             Found::More => Cutting::More,
         }
+    }
+}
+
+/// A whole message of a kind.
+fn message(kind: MessageKind, text: &[u8]) -> Cutting<'_>
+    ensures { shown result ≡ whole kind text.now }
+{
+    match kind {
+        MessageKind::Query => Cutting::Query(text),
+        MessageKind::Command => Cutting::Command(text),
+        MessageKind::Nothing => Cutting::Empty,
     }
 }
 
 /// What stands first in the bytes, by its places.
 #[derive(Clone, Copy, Debug)]
 enum Found {
-    Query(Extent),
+    Message(Extent),
     TooLong,
-    Empty(usize),
     More,
 }
 
@@ -125,9 +138,8 @@ impl Found {
         ensures { result ≡ taken_by self }
     {
         match self {
-            Found::Query(extent) => extent.next,
+            Found::Message(extent) => extent.next,
             Found::TooLong => MESSAGE_LIMIT,
-            Found::Empty(length) => length,
             Found::More => 0,
         }
     }
@@ -138,15 +150,16 @@ fn find(held: &[u8], ended: bool) -> Found
 {
     let extent = extent_of(window(held));
     if extent.end < extent.next {
-        Found::Query(extent)
+        Found::Message(extent)
     } else if held.len() > MESSAGE_LIMIT {
         Found::TooLong
     } else if !ended {
         Found::More
-    } else if extent.start == extent.end {
-        Found::Empty(held.len())
     } else {
-        Found::Query(extent)
+        Found::Message(Extent {
+            next: held.len(),
+            ..extent
+        })
     }
 }
 

@@ -3,10 +3,12 @@ ghost use Rattle.std.specs.List.{AllByRecursion};
 ghost use Rattle.std.specs.Str.{IsUtf8, is_utf8};
 ghost use Rattle.lq_text.specs.Lines.{lines_of};
 ghost use Rattle.lq_text.specs.Blanks.{words_of};
-ghost use Rattle.lq_request.specs.Reading.{AddsColumns, Reads};
-ghost use Rattle.lq_request.specs.Request.{columns_value, header, header_at, header_line, header_lines, is_colon, with_columns};
+ghost use Rattle.lq_request.specs.Reading.{AddsColumns, Finds};
+ghost use Rattle.lq_request.specs.Request.{columns_value, header, header_at, header_line, header_lines, keep_columns, with_columns};
+ghost use Rattle.lq_request.specs.Style.{is_colon, switch_value};
 
-use crate::request::{ReadErr, refused};
+use crate::fault::{Fault, refused};
+use crate::style::{colon_place, switch_value};
 use crate::words::{as_text, is_text, words_of};
 use lq_records::{Col, Items, Table, column};
 use lq_text::next_line;
@@ -16,8 +18,8 @@ use std::alloc::Global;
 pub const MOST_HEADERS: usize = 256;
 
 /// The columns of all header lines, in order, or the refusal of the first line with a fault.
-pub fn header_lines(alloc: Global, table: Table, headers: &[u8]) -> Result<Items<Col>, ReadErr>
-    ensures { Reads result (header_lines table 1 (lines_of headers.now)) }
+pub fn header_lines(alloc: Global, table: Table, headers: &[u8]) -> Result<Items<Col>, Fault>
+    ensures { Finds result (header_lines table 1 (lines_of headers.now)) }
 {
     let mut columns = Items::new(alloc);
     let mut number = 0;
@@ -37,8 +39,8 @@ fn header_line(
     number: usize,
     line: &[u8],
     columns: Items<Col>,
-) -> Result<Items<Col>, ReadErr>
-    ensures { Reads result (with_columns (Ok columns) (header_line table number line.now)) }
+) -> Result<Items<Col>, Fault>
+    ensures { Finds result (with_columns (Ok columns) (header_line table number line.now)) }
 {
     if !is_text(line) {
         return Err(refused(alloc, 400, "not UTF-8", "")?);
@@ -55,9 +57,9 @@ fn header_at(
     table: Table,
     line: &[u8],
     columns: Items<Col>,
-) -> Result<Items<Col>, ReadErr>
+) -> Result<Items<Col>, Fault>
     requires { IsUtf8 line.now }
-    ensures { Reads result (with_columns (Ok columns) (header_at table line.now (position is_colon line.now))) }
+    ensures { Finds result (with_columns (Ok columns) (header_at table line.now (position is_colon line.now))) }
 {
     match colon_place(line) {
         Some(colon) => header(alloc, table, &line[..colon], &line[colon + 1..], columns),
@@ -65,34 +67,53 @@ fn header_at(
     }
 }
 
-fn colon_place(line: &[u8]) -> Option<usize>
-    ensures place { result ≡ position is_colon line.now }
-    ensures within { IfSome result (λ colon. colon < length line.now) }
-    ensures colon { IfSome result (λ colon. slice_index line.now colon ≡ 58) }
-{
-    line.iter().position(|byte| *byte == b':')
-}
-
 /// The columns so far and those of a header.
+#[tactic(auto, unfolding(crate::specs::Request::header))]
 fn header(
     alloc: Global,
     table: Table,
     name: &[u8],
     value: &[u8],
     columns: Items<Col>,
-) -> Result<Items<Col>, ReadErr>
+) -> Result<Items<Col>, Fault>
     requires name { IsUtf8 name.now }
     requires value { IsUtf8 value.now }
-    ensures { Reads result (with_columns (Ok columns) (header table name.now value.now)) }
+    ensures { Finds result (with_columns (Ok columns) (header table name.now value.now)) }
 {
-    if name != b"Columns".as_slice() {
-        return Err(refused(alloc, 400, "unknown header: ", as_text(name))?);
+    if name == b"Columns".as_slice() {
+        return columns_value(alloc, table, value, columns);
     }
+    if name == b"KeepAlive".as_slice() {
+        return keep_value(alloc, value, columns);
+    }
+    Err(refused(alloc, 400, "unknown header: ", as_text(name))?)
+}
+
+/// The columns so far and those that the value of `Columns` names.
+fn columns_value(
+    alloc: Global,
+    table: Table,
+    value: &[u8],
+    columns: Items<Col>,
+) -> Result<Items<Col>, Fault>
+    requires { IsUtf8 value.now }
+    ensures { Finds result (with_columns (Ok columns) (columns_value table (words_of value.now))) }
+{
     let words = words_of(alloc, value)?;
     if words.is_empty() {
         return Err(refused(alloc, 400, "bad value for ", "Columns")?);
     }
     add_columns(alloc, table, &words, columns)
+}
+
+/// The columns so far, where the value of `KeepAlive` is well formed.
+fn keep_value(alloc: Global, value: &[u8], columns: Items<Col>) -> Result<Items<Col>, Fault>
+    ensures { Finds result (with_columns (Ok columns) (keep_columns (switch_value value.now))) }
+{
+    match switch_value(value) {
+        Some(_) => Ok(columns),
+        None => Err(refused(alloc, 400, "bad value for ", "KeepAlive")?),
+    }
 }
 
 /// The columns so far and those that words name, or the refusal of the first word that names none.
@@ -101,7 +122,7 @@ fn add_columns(
     table: Table,
     words: &[&[u8]],
     mut columns: Items<Col>,
-) -> Result<Items<Col>, ReadErr>
+) -> Result<Items<Col>, Fault>
     requires { AllByRecursion IsUtf8 (map (λ word. word.now) words.now) }
     ensures { AddsColumns result columns table (map (λ word. word.now) words.now) }
 {

@@ -3,8 +3,10 @@
 
 mod cut;
 mod extent;
+mod fault;
 mod header;
 mod request;
+mod style;
 #[cfg(test)]
 mod tests;
 mod words;
@@ -12,3 +14,4 @@ mod words;
 pub use cut::{Cut, Cutting, MESSAGE_LIMIT};
 pub use header::MOST_HEADERS;
 pub use request::{ReadErr, Request, read_request};
+pub use style::{Style, reply_style};

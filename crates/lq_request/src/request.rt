@@ -1,16 +1,18 @@
-ghost use Rattle.std.specs.Prelude.{◌≡◌, ◌++◌, IfOk, map};
+ghost use Rattle.std.specs.Prelude.{◌≡◌, IfOk, map};
 ghost use Rattle.std.specs.List.{AllByRecursion};
 ghost use Rattle.std.specs.Str.{IsUtf8};
 ghost use Rattle.lq_records.specs.Schema.{columns_of};
 ghost use Rattle.lq_text.specs.Lines.{lines_of};
-ghost use Rattle.lq_request.specs.Reading.{Reads};
-ghost use Rattle.lq_request.specs.Request.{asked, first_line, first_words, known_table, request_of, table_of_words};
+ghost use Rattle.lq_request.specs.Reading.{Finds, Reads};
+ghost use Rattle.lq_request.specs.Request.{asked, asked_in, first_line, first_words, known_table, request_of, table_of_words};
 
+use crate::fault::{Fault, refused};
 use crate::header::header_lines;
+use crate::style::{Style, reply_style};
 use crate::words::{as_text, is_text, words_of};
-use lq_records::{Base, Col, Items, Memory, Refusal, Table, Text, column_at, column_count, table};
+use lq_records::{Base, Col, Items, Memory, Refusal, Table, column_at, column_count, table};
 use lq_text::next_line;
-use std::alloc::{AllocError, Global};
+use std::alloc::Global;
 
 /// What a query asks.
 #[derive(Debug, Drop)]
@@ -21,25 +23,23 @@ pub struct Request {
     pub columns: Items<Col>,
     /// Whether a line of the columns' names comes first.
     pub head: bool,
+    /// Whether a line of 16 bytes with the code and the length comes first. It is always false so far.
+    pub fixed16: bool,
+    /// Whether the connection goes on behind the reply.
+    pub keep: bool,
 }
 
 /// Why a message gives no request.
 #[derive(Debug, Drop)]
 pub enum ReadErr {
-    /// The message is refused; the reply is this refusal.
-    Refused { refusal: Refusal },
+    /// The message is refused; the reply is this refusal, in the style of the message.
+    Refused {
+        refusal: Refusal,
+        fixed16: bool,
+        keep: bool,
+    },
     /// Want of memory.
     Memory,
-}
-
-impl From<AllocError> for ReadErr {
-    ghost use Rattle.lq_request.specs.declared.request.ReadErr.TheVariants.{Memory};
-
-    ghost from_gives = { λ _ e. e ≡ Memory };
-
-    fn from(_: AllocError) -> Self {
-        ReadErr::Memory
-    }
 }
 
 /// What a message asks of a base, or its refusal: the message as `next_message` of `Cut` gives it.
@@ -48,22 +48,40 @@ impl From<AllocError> for ReadErr {
 /// `GET`; 451 `missing table name`; 404 `unknown table: <word>`; 400 `extra words after the table
 /// name`. Then the first header line with a fault does, and in it the first of these: 400 `not UTF-8`;
 /// `too many headers` in the 257th; `line without a colon`; `unknown header: <name>`; `bad value for
-/// Columns` without a word; 450 `unknown column: <word>`.
+/// Columns` without a word; 450 `unknown column: <word>`; `bad value for KeepAlive` where it isn't `on`
+/// or `off`. Both have the style that `reply_style` gives.
 #[tactic(auto, unfolding(crate::specs::Request::asked))]
 pub fn read_request(alloc: Global, b: &[u8], _base: &Base) -> Result<Request, ReadErr>
     ensures { Reads result (asked b.now) }
 {
-    let Some((end, next)) = next_line(b, 0) else {
+    let style = reply_style(b);
+    match asked_in(alloc, style, b) {
+        Ok(request) => Ok(request),
+        Err(Fault::Refused(refusal)) => Err(ReadErr::Refused {
+            refusal,
+            fixed16: style.fixed16,
+            keep: style.keep,
+        }),
+        Err(Fault::Memory) => Err(ReadErr::Memory),
+    }
+}
+
+/// What a message asks, replied to in a style.
+#[tactic(auto, unfolding(crate::specs::Request::asked_in))]
+fn asked_in(alloc: Global, style: Style, message: &[u8]) -> Result<Request, Fault>
+    ensures { Finds result (asked_in style message.now) }
+{
+    let Some((end, next)) = next_line(message, 0) else {
         return Err(refused(alloc, 452, "invalid request", "")?);
     };
-    let table = first_line(alloc, &b[..end])?;
-    let columns = header_lines(alloc, table, &b[next..])?;
-    Ok(request_of(alloc, table, columns)?)
+    let table = first_line(alloc, &message[..end])?;
+    let columns = header_lines(alloc, table, &message[next..])?;
+    Ok(request_of(alloc, style, table, columns)?)
 }
 
 /// The table that a message's first line asks.
-fn first_line(alloc: Global, line: &[u8]) -> Result<Table, ReadErr>
-    ensures { Reads result (first_line line.now) }
+fn first_line(alloc: Global, line: &[u8]) -> Result<Table, Fault>
+    ensures { Finds result (first_line line.now) }
 {
     if !is_text(line) {
         return Err(refused(alloc, 400, "not UTF-8", "")?);
@@ -79,9 +97,9 @@ fn first_line(alloc: Global, line: &[u8]) -> Result<Table, ReadErr>
 }
 
 /// The table that the words behind `GET` name.
-fn table_of_words(alloc: Global, words: &[&[u8]]) -> Result<Table, ReadErr>
+fn table_of_words(alloc: Global, words: &[&[u8]]) -> Result<Table, Fault>
     requires { AllByRecursion IsUtf8 (map (λ word. word.now) words.now) }
-    ensures { Reads result (table_of_words (map (λ word. word.now) words.now)) }
+    ensures { Finds result (table_of_words (map (λ word. word.now) words.now)) }
 {
     let Some((word, more)) = words.split_first() else {
         return Err(refused(alloc, 451, "missing table name", "")?);
@@ -97,20 +115,29 @@ fn table_of_words(alloc: Global, words: &[&[u8]]) -> Result<Table, ReadErr>
 }
 
 /// The request for the columns chosen, or for all where none are.
-fn request_of(alloc: Global, table: Table, chosen: Items<Col>) -> Result<Request, Memory>
-    ensures { IfOk result (λ request. request ≡ request_of table chosen) }
+fn request_of(
+    alloc: Global,
+    style: Style,
+    table: Table,
+    chosen: Items<Col>,
+) -> Result<Request, Memory>
+    ensures { IfOk result (λ request. request ≡ request_of style table chosen) }
 {
     if !chosen.is_empty() {
         return Ok(Request {
             table,
             columns: chosen,
             head: false,
+            fixed16: style.fixed16,
+            keep: style.keep,
         });
     }
     Ok(Request {
         table,
         columns: all_columns(alloc, table)?,
         head: true,
+        fixed16: style.fixed16,
+        keep: style.keep,
     })
 }
 
@@ -122,16 +149,4 @@ fn all_columns(alloc: Global, table: Table) -> Result<Items<Col>, Memory>
         columns.push(column_at(table, i))?;
     }
     Ok(columns)
-}
-
-/// The refusal with a code, and a text and a word behind it.
-pub fn refused(alloc: Global, code: u16, text: &str, word: &str) -> Result<ReadErr, Memory>
-    ensures { IfOk result (λ e. e ≡ ReadErr.Refused (record { code = code; text = text.now ++ word.now })) }
-{
-    let mut whole = String::from_str(alloc, text)?;
-    whole.push_str(word)?;
-    let text = Text::from_string(whole);
-    Ok(ReadErr::Refused {
-        refusal: Refusal { code, text },
-    })
 }

@@ -12,6 +12,7 @@ fn feed(rt: &impl Abort, cut: &mut Cut, piece: &[u8]) {
 fn is_piece(found: Cutting<'_>, expected: Cutting<'_>) -> bool {
     match (found, expected) {
         (Cutting::Query(text), Cutting::Query(same)) => text == same,
+        (Cutting::Command(text), Cutting::Command(same)) => text == same,
         (Cutting::TooLong(bytes), Cutting::TooLong(same)) => bytes == same,
         (Cutting::More, Cutting::More) => true,
         (Cutting::Empty, Cutting::Empty) => true,
@@ -57,6 +58,100 @@ fn whole_inputs_are_cut(rt: HostRuntime) -> Result<(), Fail> {
             is_piece(cut.next_message(true), second),
             "second of {input:?}"
         );
+    }
+    Ok(())
+}
+
+#[test]
+fn commands_are_cut(rt: HostRuntime) -> Result<(), Fail> {
+    let cases: [(&[u8], Cutting<'_>, Cutting<'_>); 14] = [
+        (b"COMMAND", Cutting::Command(b""), Cutting::Empty),
+        (b"COMMAND\n\n", Cutting::Command(b""), Cutting::Empty),
+        (
+            b"COMMAND a b \r\nc",
+            Cutting::Command(b"a b "),
+            Cutting::Query(b"c"),
+        ),
+        (b"COMMAND\t a\n", Cutting::Command(b"a"), Cutting::Empty),
+        (b"COMMAND  \t\n", Cutting::Command(b""), Cutting::Empty),
+        (b"\r\n\nCOMMAND a", Cutting::Command(b"a"), Cutting::Empty),
+        (b"COMMAND a\r", Cutting::Command(b"a\r"), Cutting::Empty),
+        (
+            b"COMMAND a\nCOMMAND b",
+            Cutting::Command(b"a"),
+            Cutting::Command(b"b"),
+        ),
+        (b"COMMAND\r\na", Cutting::Command(b""), Cutting::Query(b"a")),
+        (b"COMMAND\r", Cutting::Query(b"COMMAND\r"), Cutting::Empty),
+        (
+            b"COMMANDX a\n\n",
+            Cutting::Query(b"COMMANDX a\n"),
+            Cutting::Empty,
+        ),
+        (b" COMMAND a", Cutting::Query(b" COMMAND a"), Cutting::Empty),
+        (b"command a", Cutting::Query(b"command a"), Cutting::Empty),
+        (
+            b"a\nCOMMAND b\n\n",
+            Cutting::Query(b"a\nCOMMAND b\n"),
+            Cutting::Empty,
+        ),
+    ];
+    for (input, first, second) in cases {
+        let mut cut = Cut::new(rt.alloc())?;
+        feed(&rt, &mut cut, input);
+        assert!(rt;
+            is_piece(cut.next_message(true), first),
+            "first of {input:?}"
+        );
+        assert!(rt;
+            is_piece(cut.next_message(true), second),
+            "second of {input:?}"
+        );
+    }
+    Ok(())
+}
+
+/// Shows each message of an input in a text, where the input comes in pieces of a size. A piece ends
+/// at most three messages.
+fn messages_in(
+    rt: &impl Abort,
+    alloc: Global,
+    input: &[u8],
+    size: usize,
+) -> Result<Vec<u8>, AllocError> {
+    assert!(rt; size != 0);
+    let mut seen = Vec::new(alloc);
+    let mut cut = Cut::new(alloc)?;
+    for piece in input.chunks(size) {
+        feed(rt, &mut cut, piece);
+        for _ in 0..3 {
+            show_piece(&mut seen, cut.next_message(false))?;
+        }
+    }
+    Ok(seen)
+}
+
+fn show_piece(seen: &mut Vec<u8>, found: Cutting<'_>) -> Result<(), AllocError> {
+    match found {
+        Cutting::Query(text) => show(seen, b"query ", text),
+        Cutting::Command(text) => show(seen, b"command ", text),
+        _ => Ok(()),
+    }
+}
+
+fn show(seen: &mut Vec<u8>, kind: &[u8], text: &[u8]) -> Result<(), AllocError> {
+    seen.extend_from_slice(kind)?;
+    seen.extend_from_slice(text)
+}
+
+#[test]
+fn messages_are_the_same_however_they_come(rt: HostRuntime) -> Result<(), Fail> {
+    let alloc = rt.alloc();
+    let input = b"\nGET a\nb\r\n\nCOMMAND c\r\n\nGET d\n\nCOMMANDe";
+    let expected = b"query GET a\nb\r\ncommand cquery GET d\n";
+    for size in [1, 2, 3, 7, 100] {
+        let seen = messages_in(&rt, alloc, input, size)?;
+        assert!(rt; seen.as_slice() == expected.as_slice(), "size {size}");
     }
     Ok(())
 }
@@ -116,6 +211,33 @@ fn a_message_ends_within_its_limit(rt: HostRuntime) -> Result<(), Fail> {
     Ok(())
 }
 
+fn command_of(alloc: Global, text: &[u8], end: &[u8]) -> Result<Vec<u8>, AllocError> {
+    let mut bytes = Vec::from_slice(alloc, b"\r\nCOMMAND ")?;
+    bytes.extend_from_slice(text)?;
+    bytes.extend_from_slice(end)?;
+    Ok(bytes)
+}
+
+#[test]
+fn a_command_ends_within_its_limit(rt: HostRuntime) -> Result<(), Fail> {
+    let alloc = rt.alloc();
+    let text = repeated(alloc, b'a', 65_525, b"")?;
+    let longest = command_of(alloc, &text, b"\n")?;
+    let longer = command_of(alloc, &text, b"a\n")?;
+    let front = command_of(alloc, &text, b"a")?;
+    let cases = [
+        (&longest, Cutting::Command(&text), 65_537),
+        (&longer, Cutting::TooLong(&front), 65_536),
+    ];
+    for (input, expected, room) in cases {
+        let mut cut = Cut::new(alloc)?;
+        feed(&rt, &mut cut, input);
+        assert!(rt; is_piece(cut.next_message(true), expected), "room {room}");
+        assert_eq!(rt; cut.room(), room);
+    }
+    Ok(())
+}
+
 const NAME: Col = Col {
     own: OwnColumn::Host(HostColumn::Name),
 };
@@ -163,7 +285,7 @@ fn has_head(read: &Result<Request, ReadErr>, head: bool) -> bool {
 
 fn is_refused(read: &Result<Request, ReadErr>, code: u16, text: &str) -> bool {
     match read {
-        Err(ReadErr::Refused { refusal }) => {
+        Err(ReadErr::Refused { refusal, .. }) => {
             refusal.code == code && refusal.text.as_str() == text
         }
         _ => false,
@@ -230,7 +352,11 @@ fn faulty_first_lines_are_refused(rt: HostRuntime) -> Result<(), Fail> {
 
 #[test]
 fn faulty_headers_are_refused(rt: HostRuntime) -> Result<(), Fail> {
-    let cases: [(&[u8], u16, &str); 16] = [
+    let cases: [(&[u8], u16, &str); 20] = [
+        (b"KeepAlive: On", 400, "bad value for KeepAlive"),
+        (b"KeepAlive:", 400, "bad value for KeepAlive"),
+        (b"KeepAlive: on off", 400, "bad value for KeepAlive"),
+        (b"KeepAlive : on", 400, "unknown header: KeepAlive "),
         (b"Columns name", 400, "line without a colon"),
         (b"columns: name", 400, "unknown header: columns"),
         (b"Columns : name", 400, "unknown header: Columns "),
@@ -261,6 +387,45 @@ fn faulty_headers_are_refused(rt: HostRuntime) -> Result<(), Fail> {
     Ok(())
 }
 
+fn kept(read: &Result<Request, ReadErr>) -> Option<bool> {
+    match read {
+        Ok(request) if !request.fixed16 => Some(request.keep),
+        Err(
+            ReadErr::Refused {
+                fixed16: false,
+                keep,
+                ..
+            },
+        ) => Some(*keep),
+        _ => None,
+    }
+}
+
+#[test]
+fn the_last_switch_decides(rt: HostRuntime) -> Result<(), Fail> {
+    let cases: [(&[u8], bool, bool); 12] = [
+        (b"GET hosts", true, false),
+        (b"GET hosts\nKeepAlive: on", true, true),
+        (b"GET hosts\nKeepAlive:\ton \r\n", true, true),
+        (b"GET hosts\nKeepAlive: on\nKeepAlive: off", true, false),
+        (b"GET hosts\nKeepAlive: off\nKeepAlive: on", true, true),
+        (b"GET hosts\nKeepAlive: on\nKeepAlive: no", false, true),
+        (b"GET hosts\nKeepAlive: off\nKeepAlive: yes\n", false, false),
+        (b"KeepAlive: on\nGET hosts", false, true),
+        (b"FOO\nKeepAlive: on\n\xff", false, true),
+        (b"GET hosts\n\xff\nKeepAlive: on\r", false, false),
+        (b"GET hosts\n KeepAlive: on", false, false),
+        (b"KeepAlive: on", false, true),
+    ];
+    for (message, asked, keep) in cases {
+        let read = read(rt.alloc(), message);
+        assert!(rt; read.is_ok() == asked, "at {message:?}");
+        assert!(rt; kept(&read) == Some(keep), "at {message:?}");
+        assert!(rt; reply_style(message).keep == keep, "at {message:?}");
+    }
+    Ok(())
+}
+
 #[test]
 fn a_message_has_at_most_256_header_lines(rt: HostRuntime) -> Result<(), Fail> {
     let alloc = rt.alloc();
@@ -275,6 +440,9 @@ fn a_message_has_at_most_256_header_lines(rt: HostRuntime) -> Result<(), Fail> {
     more.extend_from_slice(b"\nno colon")?;
     assert!(rt; is_refused(&read(alloc, &more), 400, "too many headers"));
     message.extend_from_slice(b"\n\xff")?;
-    assert!(rt; is_refused(&read(alloc, &message), 400, "not UTF-8"));
+    message.extend_from_slice(b"\nKeepAlive: on\n")?;
+    let last = read(alloc, &message);
+    assert!(rt; is_refused(&last, 400, "not UTF-8"));
+    assert!(rt; kept(&last) == Some(true));
     Ok(())
 }

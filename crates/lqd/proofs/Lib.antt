@@ -1,4 +1,6 @@
-pub mod SessionLemmas
+pub mod RowLemmas
+pub mod MessageLemmas
+pub mod StreamLemmas
 pub mod DigitLemmas
 pub mod ReportLemmas
 pub mod LoadLemmas

@@ -12,7 +12,7 @@ use Rattle.lqd.specs.declared.answer.TheConstants.{REPLY_LIMIT}
 -- the cell of a line, and all of them
 abbrev pub cell_of : Line → Col → Value
 cell_of line.Names column = Words (own_name column.own)
-cell_of (line.Row host) column = own_cell column.own host.now
+cell_of (line.Row host status) column = own_cell column.own host.now status.now
 
 abbrev pub cells_of : Line → List Col → List (List ℕ)
 cells_of line columns = map (λ column. cell_text (cell_of line column)) columns

@@ -1,23 +1,83 @@
--- What a connection is answered.
-use Rattle.std.specs.Prelude.{ℕ, true, Result, Ok, Err, List, []}
-use Rattle.lq_records.specs.declared.base.Base.{Base}
-use Rattle.lq_records.specs.declared.refusal.Refusal.{Refusal}
-use Rattle.lq_request.specs.Messages.{Piece, Query, TooLong, Empty, More, first_piece}
-use Rattle.lq_request.specs.Request.{asked}
+-- What a connection is answered, over all its messages.
+use Rattle.std.specs.Prelude.{ℕ, ◌+◌, nat_le, Bool, true, false, not, ◌||◌, Option, Some, None, Result, Ok, Err, List, [], ◌∷◌, ◌++◌, length, take, if◌then◌else◌}
+use Rattle.std.specs.List.{list_any}
+use Rattle.lq_records.specs.declared.update.Update.{Update}
+use Rattle.lq_commands.specs.Names.{KnownNames, names_of}
+use Rattle.lq_commands.specs.Orders.{order_of}
+use Rattle.lq_commands.specs.declared.order.Order.{Order}
+use Rattle.lq_live.specs.State.{State, Counted}
+use Rattle.lq_live.specs.Step.{step}
+use Rattle.lq_request.specs.Messages.{Piece, Query, Command, TooLong, Empty, More, messages}
+use Rattle.lq_request.specs.Request.{Refused, asked}
 use Rattle.lq_request.specs.declared.request.Request.{Request}
 use Rattle.lqd.specs.Answer.{answer_of}
+use Rattle.lqd.specs.declared.session.TheConstants.{MOST_MESSAGES}
 
--- a refusal writes no byte, since the header that asks for its text isn't built
-abbrev pub reply_to : Result Request Refusal → Base → List ℕ
-reply_to (Ok request) base = (answer_of request base).bytes
-reply_to (Err refusal) base = []
+-- ---- one message
 
-abbrev pub reply_to_piece : Piece → Base → List ℕ
-reply_to_piece (Query text) base = reply_to (asked text) base
-reply_to_piece (TooLong bytes) base = []
-reply_to_piece Empty base = []
-reply_to_piece More base = []
+-- the bytes of a query's reply; a refusal writes no byte, since the header that asks for its text isn't built
+abbrev pub reply_to : Result Request Refused → State → List ℕ
+reply_to (Ok request) s = (answer_of request s).bytes
+reply_to (Err refused) s = []
 
--- the meaning of the first message of an input: the bytes of its reply
-unfoldable pub meaning : List ℕ → Base → List ℕ
-meaning input base = reply_to_piece (first_piece true input) base
+-- whether the connection goes on behind a query
+abbrev pub keeps : Result Request Refused → Bool
+keeps (Ok request) = request.keep
+keeps (Err refused) = refused.style.keep
+
+-- The bytes that a message is answered with at a state. A too long message gets none, for the same reason as a
+-- refused query. A command never gets a reply.
+abbrev pub reply_to_piece : Piece → State → List ℕ
+reply_to_piece (Query text) s = reply_to (asked text) s
+reply_to_piece (Command text) s = []
+reply_to_piece (TooLong front) s = []
+reply_to_piece Empty s = []
+reply_to_piece More s = []
+
+-- the update of an order: the connection has the number 0, and its updates are counted from 0 on
+abbrev pub update_of : ℕ → Order → Update
+update_of seq order = record { origin = 0; seq = seq; time = order.time; text = order.text; act = order.act }
+
+-- a command takes one step; one without a time is skipped
+abbrev pub after_order : Counted → Option Order → Counted
+after_order at None = at
+after_order at (Some order) = record { state = step at.state (update_of at.count order); count = at.count + 1 }
+
+-- the state behind a message, and how many updates led to it
+abbrev pub after_piece : KnownNames → Counted → Piece → Counted
+after_piece names at (Query text) = at
+after_piece names at (Command text) = after_order at (order_of names text)
+after_piece names at (TooLong front) = at
+after_piece names at Empty = at
+after_piece names at More = at
+
+-- whether a message is the last one of its connection: a query that doesn't keep it, or one that is too long
+abbrev pub is_last : Piece → Bool
+is_last (Query text) = not (keeps (asked text))
+is_last (Command text) = false
+is_last (TooLong front) = true
+is_last Empty = true
+is_last More = true
+
+-- ---- all messages
+
+-- each message is answered at the state behind the messages before it, up to the last one
+abbrev pub replies_from : KnownNames → Counted → List Piece → List ℕ
+replies_from names at [] = []
+replies_from names at (piece ∷ later) =
+    reply_to_piece piece at.state ++ (if is_last piece then [] else replies_from names (after_piece names at piece) later)
+
+abbrev pub opening : State → Counted
+opening s = record { state = s; count = 0 }
+
+-- the bytes that are written for messages, of which the first 10,000 are served
+unfoldable pub replies_to : State → List Piece → List ℕ
+replies_to s pieces = replies_from (names_of s.base) (opening s) (take MOST_MESSAGES pieces)
+
+-- the bytes that are written for a whole input
+abbrev pub replies : State → List ℕ → List ℕ
+replies s input = replies_to s (messages input)
+
+-- whether the connection ends within messages: one is its last, or there are 10,000
+unfoldable pub is_over : List Piece → Bool
+is_over pieces = nat_le MOST_MESSAGES (length pieces) || list_any is_last pieces

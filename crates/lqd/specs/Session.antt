@@ -1,10 +1,32 @@
--- What a read of an input does, and what stands where none succeeds.
-use Rattle.std.specs.Prelude.{◌≡◌, ℕ, ◌+◌, ◌<◌, ◌≤◌, Bool, true, false, Option, List, ◌++◌, length}
-use Rattle.std.specs.Io.KnownBytes.{Consumes, IsAtEnd}
+-- What the parts of a session do.
+use Rattle.std.specs.Prelude.{◌≡◌, ℕ, ◌+◌, ◌<◌, ◌≤◌, Bool, true, false, IsTrue, IfSome, Option, List, [], ◌∷◌, ◌++◌, length}
+use Rattle.std.specs.Io.KnownBytes.{Appends, Consumes, IsAtEnd}
+use Rattle.lq_outside.specs.Sinks.{AppendsFront}
+use Rattle.lq_commands.specs.Names.{KnownNames, names_of}
+use Rattle.lq_live.specs.State.{State, Counted}
+use Rattle.lq_request.specs.Messages.{Piece, messages, whole_messages, IsCutOff}
 use Rattle.lq_request.specs.declared.cut.TheConstants.{MESSAGE_LIMIT}
-use Rattle.lqd.specs.Reading.{ReadsPart, ReadsSome}
-use Rattle.lqd.specs.declared.session.ReplyErr.{ReplyErr}
-use Rattle.lqd.specs.declared.session.ReplyErr.TheVariants.{Read, Memory}
+use Rattle.lqd.specs.Reading.{ReadsPart, ReadsSome, RepliesToFirst, RepliesToPart, RepliesToRead}
+use Rattle.lqd.specs.Replies.{after_piece, is_last, opening, replies, reply_to_piece}
+use Rattle.lqd.specs.declared.session.Next.{Next}
+use Rattle.lqd.specs.declared.session.Next.TheVariants as next
+use Rattle.lqd.specs.declared.session.ServeErr.{ServeErr}
+use Rattle.lqd.specs.declared.session.ServeErr.TheVariants as error
+
+-- The names by which commands speak of the objects, and the state with the number of updates that led to it.
+pub record Standing : Type 0 where
+  pub names : KnownNames
+  pub at : Counted
+
+-- before the first message
+abbrev pub first_standing : State → Standing
+first_standing s = record { names = names_of s.base; at = opening s }
+
+-- behind a message
+abbrev pub behind : Standing → Piece → Standing
+behind old piece = record { names = old.names; at = after_piece old.names old.at piece }
+
+-- ---- reading
 
 -- a read took bytes from the input and put them behind those that are held; none at the end alone
 pub record Fills (ended : Bool) (left_old left_new : Option (List ℕ)) (old new : List ℕ) : Type 0 where
@@ -15,7 +37,72 @@ pub record Fills (ended : Bool) (left_old left_new : Option (List ℕ)) (old new
   pub more : ended ≡ false → length old < length new
   pub small : length new ≤ MESSAGE_LIMIT + 1
 
--- what was read where there is no reply: before a read that failed no message was whole
-abbrev pub StopsReading : Option (List ℕ) → Option (List ℕ) → ReplyErr → Type 0
-StopsReading old left Read = ReadsPart old left
-StopsReading old left Memory = ReadsSome old left
+-- ---- one message
+
+-- The message stands first in the bytes that are held, however the input goes on.
+pub record ComesFirst (ended : Bool) (held : List ℕ) (piece : Piece) : Type 0 where
+  pub all : (rest : List ℕ) → (IsTrue ended → rest ≡ []) → (later : List Piece) × (messages (held ++ rest) ≡ piece ∷ later)
+  pub known : (rest : List ℕ) → ended ≡ false → (later : List Piece) × (whole_messages (held ++ rest) ≡ piece ∷ later)
+
+-- a message was cut off and served, and the connection goes on
+pub record Serves (ended : Bool) (held left : List ℕ) (old new : Standing) (out_old out : Option (List ℕ)) : Type 0 where
+  pub piece : Piece
+  pub cut : IsCutOff ended held piece left
+  pub kept : is_last piece ≡ false
+  pub state : new ≡ behind old piece
+  pub written : Appends out_old out (reply_to_piece piece old.at.state)
+
+-- the last message of the connection was served
+pub record ServesLast (ended : Bool) (held : List ℕ) (old : Standing) (out_old out : Option (List ℕ)) : Type 0 where
+  pub piece : Piece
+  pub first : ComesFirst ended held piece
+  pub last : is_last piece ≡ true
+  pub written : Appends out_old out (reply_to_piece piece old.at.state)
+
+-- nothing was written, and no message is left at the end of the input
+pub record FindsNone (ended : Bool) (held : List ℕ) (out_old out : Option (List ℕ)) : Type 0 where
+  pub end : ended ≡ true
+  pub none : messages held ≡ []
+  pub written : Appends out_old out []
+
+-- nothing was done, and more bytes may come
+pub record WantsMore (ended : Bool) (held left : List ℕ) (old new : Standing) (out_old out : Option (List ℕ)) : Type 0 where
+  pub end : ended ≡ false
+  pub none : whole_messages held ≡ []
+  pub same : left ≡ held
+  pub small : length held ≤ MESSAGE_LIMIT
+  pub state : new ≡ old
+  pub written : Appends out_old out []
+
+abbrev pub Does : Next → Bool → List ℕ → List ℕ → Standing → Standing → Option (List ℕ) → Option (List ℕ) → Type 0
+Does next.On ended held left old new out_old out = Serves ended held left old new out_old out
+Does next.Last ended held left old new out_old out = ServesLast ended held old out_old out
+Does next.Closed ended held left old new out_old out = FindsNone ended held out_old out
+Does next.More ended held left old new out_old out = WantsMore ended held left old new out_old out
+
+-- what was written of a reply where it wasn't written whole
+abbrev pub BreaksReply : ServeErr → List ℕ → Option (List ℕ) → Option (List ℕ) → Type 0
+BreaksReply error.Read reply out_old out = ⊥
+BreaksReply error.Write reply out_old out = AppendsFront out_old out reply
+BreaksReply error.Memory reply out_old out = Appends out_old out []
+
+-- a part of the reply to a message was written
+pub record CutsShort (ended : Bool) (held : List ℕ) (old : Standing) (out_old out : Option (List ℕ)) : Type 0 where
+  pub piece : Piece
+  pub first : ComesFirst ended held piece
+  pub front : AppendsFront out_old out (reply_to_piece piece old.at.state)
+
+-- what was written where a message wasn't served
+abbrev pub Breaks : ServeErr → Bool → List ℕ → Standing → Option (List ℕ) → Option (List ℕ) → Type 0
+Breaks error.Read ended held old out_old out = ⊥
+Breaks error.Write ended held old out_old out = CutsShort ended held old out_old out
+Breaks error.Memory ended held old out_old out = Appends out_old out []
+
+-- ---- a connection
+
+-- what was read and written where a connection breaks off
+abbrev pub Stops : ServeErr → State → Option (List ℕ) → Option (List ℕ) → Option (List ℕ) → Option (List ℕ) → Type 0
+Stops error.Read s old left out_old out = ReadsPart old left × RepliesToPart s old left out_old out
+Stops error.Write s old left out_old out =
+    RepliesToRead s old left out_old out × IfSome old (λ input. AppendsFront out_old out (replies s input))
+Stops error.Memory s old left out_old out = ReadsSome old left × IfSome old (λ input. RepliesToFirst s input out_old out)

@@ -1,13 +1,14 @@
-ghost use Rattle.std.specs.Prelude.{◌≡◌, ◌++◌, ◌<◌, ◌≤◌, length, map, IfOk, OnOk};
+ghost use Rattle.std.specs.Prelude.{◌≡◌, Some, slice_get, ◌++◌, ◌<◌, ◌≤◌, length, map, IfOk, OnOk};
 ghost use Rattle.lq_records.specs.Value.{shown};
-ghost use Rattle.lqd.specs.Answer.{answer_of, cell_text, csv, csv_line, line_of, names_of, own_cell, host_cell, status_cell, with_names};
+ghost use Rattle.lqd.specs.Answer.{answer_of, cell_text, csv, csv_line, line_of, names_of, own_cell, host_cell, rows_of, status_cell, with_names};
 ghost use Rattle.lqd.specs.Body.{AddsText, IsBody, cell_of, cells_of};
 
+use lq_live::Live;
 use lq_records::{
-    Base, Col, Host, HostColumn, Items, Memory, OwnColumn, StatusColumn, Val, column_name,
+    Col, Host, HostColumn, HostId, Items, Memory, OwnColumn, Status, StatusColumn, Val, column_name,
 };
 use lq_request::Request;
-use std::alloc::Global;
+use std::alloc::{AllocError, Global};
 
 /// The most bytes that the body of a reply may have.
 pub const REPLY_LIMIT: usize = 8_388_608;
@@ -25,20 +26,15 @@ enum Line<'a> {
     /// The names of the columns.
     Names,
     /// The cells of a host.
-    Row(&'a Host),
+    Row { host: &'a Host, status: &'a Status },
 }
 
 /// Answers a query: 200, the names of the columns where the query asks for them and a line for each
 /// host, or 413 and no byte where the lines have more than `REPLY_LIMIT` bytes.
-pub fn answer(alloc: Global, base: &Base, request: &Request) -> Result<Reply, Memory>
-    ensures { IfOk result (λ reply. reply ≡ answer_of request.now base.now) }
+pub fn answer(alloc: Global, live: &Live, request: &Request) -> Result<Reply, Memory>
+    ensures { IfOk result (λ reply. reply ≡ answer_of request.now live.now.state) }
 {
-    match body(
-        alloc,
-        request.head,
-        request.columns.as_slice(),
-        base.hosts.as_slice(),
-    )? {
+    match body(alloc, request.head, request.columns.as_slice(), live)? {
         Some(bytes) => Ok(Reply {
             code: 200,
             bytes: Items::from_vec(bytes),
@@ -51,19 +47,14 @@ pub fn answer(alloc: Global, base: &Base, request: &Request) -> Result<Reply, Me
 }
 
 /// The lines of the hosts behind that of the names, None where they have too many bytes.
-fn body(
-    alloc: Global,
-    head: bool,
-    columns: &[Col],
-    hosts: &[Host],
-) -> Result<Option<Vec<u8>>, Memory>
-    ensures { IfOk result (λ body. IsBody body (csv (with_names head columns.now (map (line_of columns.now) hosts.now)))) }
+fn body(alloc: Global, head: bool, columns: &[Col], live: &Live) -> Result<Option<Vec<u8>>, Memory>
+    ensures { IfOk result (λ body. IsBody body (csv (with_names head columns.now (map (line_of columns.now) (rows_of live.now.state))))) }
 {
     let mut body = Vec::new(alloc);
     if head && !push_names(alloc, &mut body, columns)? {
         return Ok(None);
     }
-    if !push_rows(alloc, &mut body, columns, hosts)? {
+    if !push_rows(alloc, &mut body, columns, live)? {
         return Ok(None);
     }
     Ok(Some(body))
@@ -81,24 +72,45 @@ fn push_rows(
     alloc: Global,
     body: &mut Vec<u8>,
     columns: &[Col],
-    hosts: &[Host],
+    live: &Live,
 ) -> Result<bool, Memory>
     requires { length body.old.items ≤ REPLY_LIMIT }
-    ensures { IfOk result (λ fits. AddsText fits body.old.items body.new.items (csv (map (line_of columns.now) hosts.now))) }
+    ensures { IfOk result (λ fits. AddsText fits body.old.items body.new.items (csv (map (line_of columns.now) (rows_of live.now.state)))) }
 {
-    for host in hosts {
-        if !push_row(alloc, body, columns, host)? {
+    let hosts = live.base().hosts.as_slice();
+    let mut place = 0;
+    'hosts: while place < hosts.len() {
+        let status = status_at(live, place)?;
+        if !push_row(alloc, body, columns, &hosts[place], status)? {
             return Ok(false);
         }
+        place += 1;
     }
     Ok(true)
 }
 
-/// Adds the line of a host. False where the body is too large with it.
-fn push_row(alloc: Global, body: &mut Vec<u8>, columns: &[Col], host: &Host) -> Result<bool, Memory>
-    ensures { IfOk result (λ fits. AddsText fits body.old.items body.new.items (csv_line (line_of columns.now host.now))) }
+/// The status of the host at a place. No memory holds a base of 2 ^ 32 hosts.
+fn status_at(live: &Live, place: usize) -> Result<&Status, Memory>
+    requires { place < length live.now.state.base.hosts }
+    ensures { IfOk result (λ status. slice_get live.now.state.host_status place ≡ Some status.now) }
 {
-    push_line(alloc, body, columns, Line::Row(host))
+    match u32::try_from(place) {
+        Ok(place) => Ok(live.host_status(HostId(place))),
+        Err(_) => Err(AllocError),
+    }
+}
+
+/// Adds the line of a host. False where the body is too large with it.
+fn push_row(
+    alloc: Global,
+    body: &mut Vec<u8>,
+    columns: &[Col],
+    host: &Host,
+    status: &Status,
+) -> Result<bool, Memory>
+    ensures { IfOk result (λ fits. AddsText fits body.old.items body.new.items (csv_line (line_of columns.now (host.now, status.now)))) }
+{
+    push_line(alloc, body, columns, Line::Row { host, status })
 }
 
 /// Adds a line. False where the body is too large with it.
@@ -132,35 +144,35 @@ fn cell(line: Line<'_>, column: Col) -> Val<'_>
 {
     match line {
         Line::Names => Val::Str(column_name(column).name),
-        Line::Row(host) => own_cell(column.own, host),
+        Line::Row { host, status } => own_cell(column.own, host, status),
     }
 }
 
 /// The value of a host's cell.
-fn own_cell(column: OwnColumn, host: &Host) -> Val<'_>
-    ensures { shown result ≡ own_cell column host.now }
+fn own_cell<'a>(column: OwnColumn, host: &'a Host, status: &Status) -> Val<'a>
+    ensures { shown result ≡ own_cell column host.now status.now }
 {
     match column {
-        OwnColumn::Host(column) => host_cell(column, host),
+        OwnColumn::Host(column) => host_cell(column, host, status),
     }
 }
 
-fn host_cell(column: HostColumn, host: &Host) -> Val<'_>
-    ensures { shown result ≡ host_cell column host.now }
+fn host_cell<'a>(column: HostColumn, host: &'a Host, status: &Status) -> Val<'a>
+    ensures { shown result ≡ host_cell column host.now status.now }
 {
     match column {
         HostColumn::Name => Val::Str(host.host_name.as_str()),
         HostColumn::Alias => Val::Str(host.alias.as_str()),
         HostColumn::Address => Val::Str(host.address.as_str()),
-        HostColumn::Status(column) => status_cell(column),
+        HostColumn::Status(column) => status_cell(column, status),
     }
 }
 
-fn status_cell(column: StatusColumn) -> Val<'static>
-    ensures { shown result ≡ status_cell column }
+fn status_cell(column: StatusColumn, status: &Status) -> Val<'static>
+    ensures { shown result ≡ status_cell column status.now }
 {
     match column {
-        StatusColumn::State => Val::Int(0),
+        StatusColumn::State => Val::Int(i128::from(status.state)),
     }
 }
 

@@ -4,7 +4,6 @@ ghost use Rattle.std.specs.Io.KnownBytes.{Appends};
 ghost use Rattle.lq_outside.specs.Faults.{HasCause};
 ghost use Rattle.lqd.specs.Faults.{IsStatus, objects_text, status_of, text_of};
 
-use crate::session::ReplyErr;
 use lq_objects::ObjectsWhat;
 use lq_outside::{Failed, Sink, write_all};
 

@@ -2,25 +2,29 @@ ghost use Rattle.std.specs.Prelude.{◌≡◌, ◌↔◌, ◌⊎◌, ℕ, ◌≤
 ghost use Rattle.std.specs.Io.KnownBytes.{Appends};
 ghost use Rattle.lq_outside.specs.Faults.{Rose};
 ghost use Rattle.lq_outside.specs.Sinks.{AppendsFront};
+ghost use Rattle.lq_records.specs.Sound.{IsSound};
+ghost use Rattle.lq_live.specs.State.{opened};
 ghost use Rattle.lqd.specs.CommandLine.{asked_path};
 ghost use Rattle.lqd.specs.Faults.{IsStatus, status_of, text_of};
-ghost use Rattle.lqd.specs.Reading.{ReadsFirst, ReadsPart, ReadsSome};
-ghost use Rattle.lqd.specs.Replies.{meaning};
+ghost use Rattle.lqd.specs.Reading.{ReadsAll, ReadsPart, ReadsSome, RepliesToFirst, RepliesToPart, RepliesToRead};
+ghost use Rattle.lqd.specs.Replies.{replies};
 ghost use Rattle.lqd.specs.Run.{IsRefused, LoadsNoBase, MustRefuse, OnBase, OnFile, Reports};
 
 use crate::command_line::asked_path;
 use crate::fault::{Fault, OBJECTS_LIMIT, ObjectsFault};
-use crate::session::{ReplyErr, first_reply};
+use crate::session::{ServeErr, serve};
 use lq_objects::{ObjectsErr, read_objects};
-use lq_outside::{Files, LoadErr, Sink, Source, write_all};
+use lq_outside::{Files, LoadErr, Sink, Source};
 use lq_records::{Base, Rules};
 use std::alloc::Global;
 
-/// Runs the program: `ask OBJECTS` answers the first message of the input on the objects of a file.
-/// The answer is the status that the program ends with:
+/// Runs the program: `ask OBJECTS` serves the messages of the input over the objects of a file. Each
+/// query is answered at the state that the commands before it left. The connection ends behind a query
+/// without `KeepAlive: on`, behind a message that is too long, behind the 10,000th message, or with the
+/// input. The answer is the status that the program ends with:
 ///
-/// - 0: the reply was written whole, or there was no message, or it was refused or too long, which
-///   writes nothing.
+/// - 0: all messages up to the end of the connection were served. A command, a refused query and a
+///   message that is too long write nothing.
 /// - 1: the words are outside the grammar.
 /// - 2: the object file is refused, or has more than 67,108,864 bytes.
 /// - 4: the object file is missing or can't be read.
@@ -52,16 +56,25 @@ pub fn run<R, F: Files, S: Source, K: Sink>(
     // What was read and written at each status.
     ensures untouched { (result ≡ 1) ⊎ (result ≡ 2) ⊎ (result ≡ 4)
         → (input.new ≡ input.old) × (output.new ≡ output.old) }
-    ensures read { (result ≡ 0) ⊎ (result ≡ 6)
-        → IfSome (S.left input.old) (λ all. ReadsFirst all (S.left input.new)) }
+    ensures read { result ≡ 0 → ReadsAll (S.left input.old) (S.left input.new) }
     ensures written { result ≡ 0 → OnFile (asked_path (map string_bytes words.now)) (F.held_at files.old)
         (λ _ file. OnBase file (λ base. IfSome (S.left input.old) (λ all.
-        Appends (K.held output.old) (K.held output.new) (meaning all base)))) }
+        Appends (K.held output.old) (K.held output.new) (replies (opened base) all)))) }
+    ensures part { result ≡ 5 → ReadsPart (S.left input.old) (S.left input.new) }
+    ensures part_written { result ≡ 5 → OnFile (asked_path (map string_bytes words.now)) (F.held_at files.old)
+        (λ _ file. OnBase file (λ base.
+        RepliesToPart (opened base) (S.left input.old) (S.left input.new) (K.held output.old) (K.held output.new))) }
     ensures cut_short { result ≡ 6 → OnFile (asked_path (map string_bytes words.now)) (F.held_at files.old)
         (λ _ file. OnBase file (λ base. IfSome (S.left input.old) (λ all.
-        AppendsFront (K.held output.old) (K.held output.new) (meaning all base)))) }
-    ensures part { result ≡ 5 → ReadsPart (S.left input.old) (S.left input.new) × (output.new ≡ output.old) }
-    ensures no_memory { result ≡ 7 → ReadsSome (S.left input.old) (S.left input.new) × (output.new ≡ output.old) }
+        AppendsFront (K.held output.old) (K.held output.new) (replies (opened base) all)))) }
+    ensures read_before { result ≡ 6 → OnFile (asked_path (map string_bytes words.now)) (F.held_at files.old)
+        (λ _ file. OnBase file (λ base.
+        RepliesToRead (opened base) (S.left input.old) (S.left input.new) (K.held output.old) (K.held output.new))) }
+    ensures some_read { (result ≡ 6) ⊎ (result ≡ 7) → ReadsSome (S.left input.old) (S.left input.new) }
+    ensures first_written { result ≡ 7 → (output.new ≡ output.old)
+        ⊎ OnFile (asked_path (map string_bytes words.now)) (F.held_at files.old)
+        (λ _ file. OnBase file (λ base. IfSome (S.left input.old) (λ all.
+        RepliesToFirst (opened base) all (K.held output.old) (K.held output.new)))) }
 
     // What the fault sink gets, where its count of faults doesn't rise.
     ensures report { ¬ Rose (K.faults faults.old) (K.faults faults.new)
@@ -82,14 +95,11 @@ pub fn run<R, F: Files, S: Source, K: Sink>(
         Ok(base) => base,
         Err(fault) => return end(fault, faults),
     };
-    let reply = match first_reply(alloc, &base, input) {
-        Ok(reply) => reply,
-        Err(ReplyErr::Read) => return end(Fault::Read, faults),
-        Err(ReplyErr::Memory) => return end(Fault::Memory, faults),
-    };
-    match write_all(output, reply.as_slice()) {
+    match serve(alloc, base, input, output) {
         Ok(()) => 0,
-        Err(_) => end(Fault::Write, faults),
+        Err(ServeErr::Read) => end(Fault::Read, faults),
+        Err(ServeErr::Write) => end(Fault::Write, faults),
+        Err(ServeErr::Memory) => end(Fault::Memory, faults),
     }
 }
 
@@ -107,6 +117,7 @@ fn end<K: Sink>(fault: Fault, faults: &mut K) -> u8
 /// Loads the object file and reads it.
 fn load_base<'a, F: Files>(alloc: Global, path: &'a str, files: &mut F) -> Result<Base, Fault<'a>>
     ensures ok { IfOk result (λ base. OnBase (F.held_at files.old path.now) (λ said. said ≡ base)) }
+    ensures sound { IfOk result IsSound }
     ensures err { IfErr result (LoadsNoBase path.now (F.held_at files.old path.now) (F.faults files.old) (F.faults files.new)) }
     ensures later { F.faults files.old ≤ F.faults files.new }
     ensures stays { (p : List ℕ) → F.held_at files.new p ≡ F.held_at files.old p }

@@ -1,71 +1,129 @@
-ghost use Rattle.std.specs.Prelude.{◌≡◌, ◌<◌, ◌≤◌, length, vec_len, IfOk, IfErr, IfSome, OnErr};
-ghost use Rattle.std.specs.Io.KnownBytes.{Keeps};
+ghost use Rattle.std.specs.Prelude.{[], ◌≡◌, ◌≢◌, ◌<◌, ◌≤◌, length, vec_len, IfOk, IfErr, IfSome, OnErr, OnOk};
+ghost use Rattle.std.specs.Io.KnownBytes.{Appends, Keeps};
 ghost use Rattle.lq_outside.specs.Faults.{HasCause, Rose};
-ghost use Rattle.lq_request.specs.Messages.{Query};
+ghost use Rattle.lq_outside.specs.Sinks.{AppendsFront};
+ghost use Rattle.lq_records.specs.Sound.{IsSound};
+ghost use Rattle.lq_commands.specs.Names.{names_of};
+ghost use Rattle.lq_live.specs.State.{opened};
+ghost use Rattle.lq_request.specs.Messages.{Command, Query};
+ghost use Rattle.lq_request.specs.Request.{asked};
 ghost use Rattle.lq_request.specs.declared.cut.TheConstants.{MESSAGE_LIMIT};
-ghost use Rattle.lqd.specs.Reading.{Answers, ReadsFirst};
-ghost use Rattle.lqd.specs.Replies.{meaning, reply_to_piece};
-ghost use Rattle.lqd.specs.Session.{Fills, StopsReading};
+ghost use Rattle.lqd.specs.Reading.{ReadsAll};
+ghost use Rattle.lqd.specs.Replies.{keeps, opening, replies, reply_to, update_of};
+ghost use Rattle.lqd.specs.Session.{Breaks, BreaksReply, Does, Fills, Stops, behind, first_standing};
 
 use crate::answer::answer;
-use lq_outside::{Failed, Source};
-use lq_records::{Base, Items, Memory};
+use lq_commands::{CommandErr, ObjectNames, Order, read_command};
+use lq_live::Live;
+use lq_log::LogBook;
+use lq_outside::{Failed, Sink, Source, write_all};
+use lq_records::{Base, Items, Memory, Update};
 use lq_request::{Cut, Cutting, ReadErr, read_request};
 use std::alloc::{AllocError, Global};
+use std::marker::Model;
+
+/// How many messages of a connection are served.
+pub const MOST_MESSAGES: usize = 10_000;
 
 /// How many bytes are read at once.
 const PIECE: usize = 65_536;
 
-/// Why an input's first message has no reply.
+/// Why a connection breaks off.
 #[derive(Clone, Copy, Debug, PartialEq, Eq)]
-pub enum ReplyErr {
+pub enum ServeErr {
     /// A read failed.
     Read,
+    /// A write failed.
+    Write,
     /// Want of memory.
     Memory,
 }
 
-impl From<AllocError> for ReplyErr {
-    ghost use Rattle.lqd.specs.declared.session.ReplyErr.TheVariants.{Memory};
+impl From<AllocError> for ServeErr {
+    ghost use Rattle.lqd.specs.declared.session.ServeErr.TheVariants.{Memory};
 
     ghost from_gives = { λ _ e. e ≡ Memory };
 
     fn from(_: AllocError) -> Self {
-        ReplyErr::Memory
+        ServeErr::Memory
     }
 }
 
-impl From<Failed> for ReplyErr {
-    ghost use Rattle.lqd.specs.declared.session.ReplyErr.TheVariants.{Read};
-
-    ghost from_gives = { λ _ e. e ≡ Read };
-
-    fn from(_: Failed) -> Self {
-        ReplyErr::Read
-    }
-}
-
-/// The reply to the first message of an input: none for an input without one.
-pub fn first_reply<S: Source>(
+/// Serves a connection: reads messages from the input, and writes the reply to each query before the next
+/// message is read. Each command takes its step of the state, which opens with each object pending. The
+/// connection ends behind a query that doesn't keep it, behind a message that is too long, behind the
+/// 10,000th message, or at the end of the input. The errors are `Read`, `Write` and want of memory.
+pub fn serve<S: Source, K: Sink>(
     alloc: Global,
-    base: &Base,
+    base: Base,
     input: &mut S,
-) -> Result<Items<u8>, ReplyErr>
-    ensures reply { IfOk result (λ bytes. IfSome (S.left input.old) (λ all. bytes ≡ meaning all base.now)) }
-    ensures read { IfOk result (λ _. IfSome (S.left input.old) (λ all. ReadsFirst all (S.left input.new))) }
-    ensures stopped { IfErr result (StopsReading (S.left input.old) (S.left input.new)) }
-    ensures later { S.faults input.old ≤ S.faults input.new }
-    ensures cause { result ≡ Err ReplyErr.Read → Rose (S.faults input.old) (S.faults input.new) }
+    output: &mut K,
+) -> Result<(), ServeErr>
+    requires { IsSound base }
+    ensures written { OnOk result (IfSome (S.left input.old) (λ all.
+        Appends (K.held output.old) (K.held output.new) (replies (opened base) all))) }
+    ensures read { OnOk result (ReadsAll (S.left input.old) (S.left input.new)) }
+    ensures stopped { IfErr result (λ error. Stops error (opened base) (S.left input.old) (S.left input.new) (K.held output.old) (K.held output.new)) }
+    ensures input_later { S.faults input.old ≤ S.faults input.new }
+    ensures output_later { K.faults output.old ≤ K.faults output.new }
+    ensures read_cause { result ≡ Err ServeErr.Read → Rose (S.faults input.old) (S.faults input.new) }
+    ensures write_cause { result ≡ Err ServeErr.Write → Rose (K.faults output.old) (K.faults output.new) }
 {
-    let mut cut = Cut::new(alloc)?;
-    let mut piece = new_piece(alloc)?;
+    let Ok((mut session, mut cut, mut piece)) = start(alloc, base) else {
+        return Err(ServeErr::Memory);
+    };
+    serve_all(alloc, &mut session, &mut cut, &mut piece, input, output)
+}
+
+/// Serves the messages of an input from an opening state on.
+fn serve_all<S: Source, K: Sink>(
+    alloc: Global,
+    session: &mut Session,
+    cut: &mut Cut,
+    piece: &mut [u8],
+    input: &mut S,
+    output: &mut K,
+) -> Result<(), ServeErr>
+    requires opened { session.old ≡ first_standing session.old.at.state }
+    requires none { cut.old ≡ [] }
+    requires some { 0 < length piece.old }
+    ensures written { OnOk result (IfSome (S.left input.old) (λ all.
+        Appends (K.held output.old) (K.held output.new) (replies session.old.at.state all))) }
+    ensures read { OnOk result (ReadsAll (S.left input.old) (S.left input.new)) }
+    ensures stopped { IfErr result (λ error. Stops error session.old.at.state (S.left input.old) (S.left input.new) (K.held output.old) (K.held output.new)) }
+    ensures input_later { S.faults input.old ≤ S.faults input.new }
+    ensures output_later { K.faults output.old ≤ K.faults output.new }
+    ensures read_cause { result ≡ Err ServeErr.Read → Rose (S.faults input.old) (S.faults input.new) }
+    ensures write_cause { result ≡ Err ServeErr.Write → Rose (K.faults output.old) (K.faults output.new) }
+{
     let mut ended = false;
-    'reads: loop {
-        if let Some(bytes) = reply_from(alloc, base, &mut cut, ended)? {
-            return Ok(bytes);
+    let mut left = MOST_MESSAGES;
+    'messages: while left > 0 {
+        match session.next(alloc, cut, ended, output) {
+            Ok(Next::On) => left -= 1,
+            Ok(Next::More) => match fill(input, cut, piece) {
+                Ok(end) => ended = end,
+                Err(error) => return Err(error),
+            },
+            Ok(Next::Last) => return Ok(()),
+            Ok(Next::Closed) => return Ok(()),
+            Err(error) => return Err(error),
         }
-        ended = fill(input, &mut cut, &mut piece)?;
     }
+    Ok(())
+}
+
+/// The session that a base opens with, no bytes yet, and room for what one read gives.
+fn start(alloc: Global, base: Base) -> Result<(Session, Cut, Vec<u8>), Memory>
+    requires { IsSound base }
+    ensures session { IfOk result (λ parts. parts.0 ≡ first_standing (opened base)) }
+    ensures cut { IfOk result (λ parts. parts.1 ≡ []) }
+    ensures piece { IfOk result (λ parts. 0 < vec_len parts.2) }
+{
+    let session = Session::open(alloc, base)?;
+    let cut = Cut::new(alloc)?;
+    let piece = new_piece(alloc)?;
+    Ok((session, cut, piece))
 }
 
 /// Room for what one read gives.
@@ -76,47 +134,156 @@ fn new_piece(alloc: Global) -> Result<Vec<u8>, Memory>
 }
 
 /// Reads once behind what is held, and says whether the input has ended.
-fn fill<S: Source>(input: &mut S, cut: &mut Cut, piece: &mut [u8]) -> Result<bool, Failed>
+fn fill<S: Source>(input: &mut S, cut: &mut Cut, piece: &mut [u8]) -> Result<bool, ServeErr>
     requires room { length cut.old ≤ MESSAGE_LIMIT }
     requires some { 0 < length piece.old }
     ensures ok { IfOk result (λ ended. Fills ended (S.left input.old) (S.left input.new) cut.old cut.new) }
     ensures err { OnErr result (Keeps (S.left input.old) (S.left input.new)) }
     ensures same { OnErr result (cut.new ≡ cut.old) }
+    ensures read { IfErr result (λ error. error ≡ ServeErr.Read) }
     ensures cause { HasCause (S.faults input.old) (S.faults input.new) result }
 {
     let most = cut.room().min(piece.len());
-    let count = input.read(&mut piece[..most])?;
-    cut.feed(&piece[..count]);
-    Ok(count == 0)
-}
-
-/// The reply to the message that stands first in what is held. None where no message is whole.
-fn reply_from(
-    alloc: Global,
-    base: &Base,
-    cut: &mut Cut,
-    ended: bool,
-) -> Result<Option<Items<u8>>, Memory>
-    ensures { IfOk result (λ reply. Answers reply base.now ended cut.old cut.new) }
-{
-    match cut.next_message(ended) {
-        Cutting::Query(text) => match reply_to(alloc, base, text) {
-            Ok(bytes) => Ok(Some(bytes)),
-            Err(e) => Err(e),
-        },
-        Cutting::TooLong(_) => Ok(Some(Items::new(alloc))),
-        Cutting::Empty => Ok(Some(Items::new(alloc))),
-        Cutting::More => Ok(None),
+    match input.read(&mut piece[..most]) {
+        Ok(count) => {
+            cut.feed(&piece[..count]);
+            Ok(count == 0)
+        }
+        Err(Failed) => Err(ServeErr::Read),
     }
 }
 
-/// The reply to a query. A refusal writes nothing.
-fn reply_to(alloc: Global, base: &Base, text: &[u8]) -> Result<Items<u8>, Memory>
-    ensures { IfOk result (λ bytes. bytes ≡ reply_to_piece (Query text.now) base.now) }
+/// What became of a connection.
+#[derive(Clone, Copy, Debug)]
+enum Next {
+    /// A message was served, and the connection goes on.
+    On,
+    /// A message was served that is the last one of the connection.
+    Last,
+    /// No message is left.
+    Closed,
+    /// No message is whole, and more bytes may come.
+    More,
+}
+
+/// What a query is answered.
+#[derive(Drop)]
+struct Answered {
+    bytes: Items<u8>,
+    /// Whether the connection goes on.
+    keep: bool,
+}
+
+/// The state of the objects, and the names by which commands speak of them.
+#[derive(Drop)]
+struct Session {
+    live: Live,
+    names: ObjectNames,
+}
+
+impl Model for Session {
+    ghost use Rattle.lqd.specs.Session.{Standing};
+
+    ghost Value = { Standing };
+
+    ghost view = { λ session. record { names = session.names; at = session.live } };
+}
+
+impl Session {
+    /// The session that a base opens with.
+    fn open(alloc: Global, base: Base) -> Result<Self, Memory>
+        requires { IsSound base }
+        ensures { IfOk result (λ session. session ≡ first_standing (opened base)) }
+    {
+        let names = ObjectNames::of(alloc, &base)?;
+        let live = Live::open(alloc, base, LogBook::empty(alloc))?;
+        Ok(Session { live, names })
+    }
+
+    /// Serves the message that stands first in what is held.
+    fn next<K: Sink>(
+        &mut self,
+        alloc: Global,
+        cut: &mut Cut,
+        ended: bool,
+        output: &mut K,
+    ) -> Result<Next, ServeErr>
+        ensures ok { IfOk result (λ next. Does next ended cut.old cut.new self.old self.new (K.held output.old) (K.held output.new)) }
+        ensures err { IfErr result (λ error. Breaks error ended cut.old self.old (K.held output.old) (K.held output.new)) }
+        ensures later { K.faults output.old ≤ K.faults output.new }
+        ensures cause { result ≡ Err ServeErr.Write → Rose (K.faults output.old) (K.faults output.new) }
+    {
+        match cut.next_message(ended) {
+            Cutting::Query(text) => match self.answer(alloc, text, output) {
+                Ok(true) => Ok(Next::On),
+                Ok(false) => Ok(Next::Last),
+                Err(error) => Err(error),
+            },
+            Cutting::Command(text) => match self.command(alloc, text) {
+                Ok(()) => Ok(Next::On),
+                Err(_) => Err(ServeErr::Memory),
+            },
+            Cutting::TooLong(_) => Ok(Next::Last),
+            Cutting::Empty => Ok(Next::Closed),
+            Cutting::More => Ok(Next::More),
+        }
+    }
+
+    /// Writes the reply to a query, and says whether the connection goes on.
+    fn answer<K: Sink>(&self, alloc: Global, text: &[u8], output: &mut K) -> Result<bool, ServeErr>
+        ensures keep { IfOk result (λ keep. keep ≡ keeps (asked text.now)) }
+        ensures ok { OnOk result (Appends (K.held output.old) (K.held output.new) (reply_to (asked text.now) self.now.at.state)) }
+        ensures broken { IfErr result (λ error. BreaksReply error (reply_to (asked text.now) self.now.at.state) (K.held output.old) (K.held output.new)) }
+        ensures later { K.faults output.old ≤ K.faults output.new }
+        ensures cause { result ≡ Err ServeErr.Write → Rose (K.faults output.old) (K.faults output.new) }
+    {
+        let answered = self.reply(alloc, text)?;
+        match write_all(output, answered.bytes.as_slice()) {
+            Ok(()) => Ok(answered.keep),
+            Err(_) => Err(ServeErr::Write),
+        }
+    }
+
+    /// The reply to a query. A refusal writes nothing.
+    fn reply(&self, alloc: Global, text: &[u8]) -> Result<Answered, Memory>
+        ensures bytes { IfOk result (λ answered. answered.bytes ≡ reply_to (asked text.now) self.now.at.state) }
+        ensures keep { IfOk result (λ answered. answered.keep ≡ keeps (asked text.now)) }
+    {
+        match read_request(alloc, text, self.live.base()) {
+            Ok(request) => Ok(Answered {
+                bytes: answer(alloc, &self.live, &request)?.bytes,
+                keep: request.keep,
+            }),
+            Err(ReadErr::Refused { keep, .. }) => Ok(Answered {
+                bytes: Items::new(alloc),
+                keep,
+            }),
+            Err(ReadErr::Memory) => Err(AllocError),
+        }
+    }
+
+    /// Takes a command's step of the state. One without a time is skipped.
+    fn command(&mut self, alloc: Global, text: &[u8]) -> Result<(), Memory>
+        ensures { OnOk result (self.new ≡ behind self.old (Command text.now)) }
+    {
+        match read_command(alloc, &self.names, text) {
+            Ok(order) => self.live.apply(&update_of(self.live.count(), order)),
+            Err(CommandErr::NoTime) => Ok(()),
+            Err(CommandErr::Memory) => Err(AllocError),
+        }
+    }
+}
+
+/// The update of an order.
+fn update_of(seq: u64, order: Order) -> Update
+    ensures { result ≡ update_of seq order }
 {
-    match read_request(alloc, text, base) {
-        Ok(request) => Ok(answer(alloc, base, &request)?.bytes),
-        Err(ReadErr::Refused { refusal: _ }) => Ok(Items::new(alloc)),
-        Err(ReadErr::Memory) => Err(AllocError),
+    let Order { time, text, act } = order;
+    Update {
+        origin: 0,
+        seq,
+        time,
+        text,
+        act,
     }
 }

@@ -181,6 +181,79 @@ fn faults_have_their_status_and_text(rt: HostRuntime) -> Result<(), Fail> {
     Ok(())
 }
 
+/// A query whose connection goes on.
+const KEPT: &[u8] = b"GET hosts\nColumns: name state\nKeepAlive: on\n\n";
+
+#[test]
+fn commands_change_what_is_answered(rt: HostRuntime) -> Result<(), Fail> {
+    let cases: [(&[u8], &[u8]); 7] = [
+        (
+            b"GET hosts\nColumns: name state\nKeepAlive: on\n\n\
+COMMAND [100] PROCESS_HOST_CHECK_RESULT;web2;1;down\n\nGET hosts\nColumns: name state\n\n",
+            b"web1;0\nweb2;0\nweb1;0\nweb2;1\n",
+        ),
+        (
+            b"COMMAND\t[100] PROCESS_HOST_CHECK_RESULT;web1;2;away\r\nGET hosts\nColumns: state\n",
+            b"2\n0\n",
+        ),
+        (
+            b"COMMAND PROCESS_HOST_CHECK_RESULT;web1;2;away\nGET hosts\nColumns: state\n\n",
+            b"0\n0\n",
+        ),
+        (
+            b"COMMAND [1] PROCESS_HOST_CHECK_RESULT;web1;2;a\nCOMMAND [2] PROCESS_HOST_CHECK_RESULT;web1;0;b\n\
+GET hosts\nColumns: state\n\n",
+            b"0\n0\n",
+        ),
+        (
+            b"COMMAND [100] PROCESS_HOST_CHECK_RESULT;web1;2;bad|x=1\nGET hosts\nColumns: state\nKeepAlive: on\n\n\
+COMMAND [103] PROCESS_HOST_CHECK_RESULT;web1;0;fine\nGET hosts\nColumns: name state\n\n",
+            b"2\n0\nweb1;0\nweb2;0\n",
+        ),
+        (
+            b"COMMAND [150] SCHEDULE_HOST_DOWNTIME;web1;200;300;1;0;100;anna;work\n\
+COMMAND [200] ENABLE_NOTIFICATIONS\nCOMMAND [210] PROCESS_HOST_CHECK_RESULT;web1;1;down\n\
+COMMAND [300] ENABLE_NOTIFICATIONS\nCOMMAND [301] DEL_HOST_DOWNTIME;1\nGET hosts\nColumns: name state\n\n",
+            b"web1;1\nweb2;0\n",
+        ),
+        (b"COMMAND [100] PROCESS_HOST_CHECK_RESULT;web2;1;down", b""),
+    ];
+    for (input, output) in cases {
+        assert_run(&rt, &["ask", "f"], &STEADY, input, (0, output, b""))?;
+    }
+    Ok(())
+}
+
+#[test]
+fn a_query_ends_a_connection_that_it_does_not_keep(rt: HostRuntime) -> Result<(), Fail> {
+    let cases: [(&[u8], &[u8]); 5] = [
+        (
+            b"GET hosts\nColumns: name\nKeepAlive: off\n\nGET hosts\nColumns: alias\n\n",
+            b"web1\nweb2\n",
+        ),
+        (
+            b"GET hosts\nColumns: name\nKeepAlive: on\n\nGET hosts\nColumns: state\n\n",
+            b"web1\nweb2\n0\n0\n",
+        ),
+        (
+            b"GET hosts\nColumns: name nope\nKeepAlive: on\n\nGET hosts\nColumns: name\n\n",
+            b"web1\nweb2\n",
+        ),
+        (
+            b"GET hosts\nColumns: name nope\n\nGET hosts\nColumns: name\n\n",
+            b"",
+        ),
+        (
+            b"GET hosts\nColumns: state\nKeepAlive: on\n\n\n\n",
+            b"0\n0\n",
+        ),
+    ];
+    for (input, output) in cases {
+        assert_run(&rt, &["ask", "f"], &STEADY, input, (0, output, b""))?;
+    }
+    Ok(())
+}
+
 /// Runs the program on a file that it refuses.
 fn assert_refused<R: Abort + AllocGlobal>(rt: &R, file: &[u8], text: &[u8]) -> Result<(), Fail> {
     let outside = Outside { file, ..STEADY };
@@ -361,6 +434,10 @@ impl Sink for Narrow {
     }
 }
 
+/// Two queries, with a command between them.
+const STREAM: &[u8] = b"\r\n\nGET hosts\nColumns: name state\nKeepAlive: on\n\n\n\
+COMMAND [100] PROCESS_HOST_CHECK_RESULT;web2;1;down\n\nGET hosts\nColumns: name state\n\n";
+
 fn narrow_sink(alloc: Global) -> Result<Narrow, AllocError> {
     Ok(Narrow {
         inner: MemSink::new(alloc, Vec::new(alloc))?,
@@ -373,7 +450,7 @@ fn pieces_change_nothing(rt: HostRuntime) -> Result<(), Fail> {
     let words = texts(alloc, &["ask", "f"])?;
     let mut files = files(alloc, HOSTS, &[])?;
     let mut input = OneByte {
-        inner: source(alloc, QUERY, &[])?,
+        inner: source(alloc, STREAM, &[])?,
     };
     let mut output = narrow_sink(alloc)?;
     let mut faults = narrow_sink(alloc)?;
@@ -387,9 +464,58 @@ fn pieces_change_nothing(rt: HostRuntime) -> Result<(), Fail> {
         &mut faults,
     );
     assert_eq!(rt; status, 0);
-    assert_eq!(rt; output.inner.held(), ROWS);
+    assert_eq!(rt;
+        output.inner.held(),
+        b"web1;0\nweb2;0\nweb1;0\nweb2;1\n".as_slice()
+    );
     assert_eq!(rt; faults.inner.held(), b"".as_slice());
     Ok(())
+}
+
+#[test]
+fn a_read_fault_leaves_what_was_written(rt: HostRuntime) -> Result<(), Fail> {
+    let broken = Outside {
+        fail_read: &[1],
+        ..STEADY
+    };
+    assert_run(
+        &rt,
+        &["ask", "f"],
+        &broken,
+        KEPT,
+        (5, ROWS, b"read fault\n"),
+    )
+}
+
+#[test]
+fn a_write_fault_leaves_the_replies_before_it(rt: HostRuntime) -> Result<(), Fail> {
+    let full = Outside {
+        fail_write: &[1],
+        ..STEADY
+    };
+    assert_run(
+        &rt,
+        &["ask", "f"],
+        &full,
+        STREAM,
+        (6, ROWS, b"write fault\n"),
+    )
+}
+
+/// The piece a number of times, and the query behind it.
+fn behind_many(alloc: Global, piece: &[u8], count: usize) -> Result<Vec<u8>, AllocError> {
+    let mut bytes = piece.repeat(alloc, count)?;
+    bytes.extend_from_slice(QUERY)?;
+    Ok(bytes)
+}
+
+#[test]
+fn a_connection_has_10_000_messages_at_most(rt: HostRuntime) -> Result<(), Fail> {
+    let alloc = rt.alloc();
+    let most = behind_many(alloc, b"COMMAND [1] X\n", 9_999)?;
+    assert_run(&rt, &["ask", "f"], &STEADY, &most, (0, ROWS, b""))?;
+    let more = behind_many(alloc, b"COMMAND [1] X\n", 10_000)?;
+    assert_run(&rt, &["ask", "f"], &STEADY, &more, (0, b"", b""))
 }
 
 /// The bytes with a number of copies of one byte between the other two parts.
@@ -468,6 +594,7 @@ fn a_message_has_65_536_bytes_at_most(rt: HostRuntime) -> Result<(), Fail> {
         &most,
         (0, b"web1\nweb2\n", b""),
     )?;
-    let more = padded(alloc, front, b' ', 65_536 - front.len() - 1, b"\n\n")?;
+    let back = b"\n\nGET hosts\nColumns: name\n\n";
+    let more = padded(alloc, front, b' ', 65_536 - front.len() - 1, back)?;
     assert_run(&rt, &["ask", "f"], &STEADY, &more, (0, b"", b""))
 }

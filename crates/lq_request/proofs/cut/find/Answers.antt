@@ -1,6 +1,6 @@
 use Rattle.std.proofs.Common.{subst}
 use Rattle.lq_request.specs.Extent.{IsExtent}
-use Rattle.lq_request.proofs.CutLemmas.{shows_ended, shows_long, shows_more, shows_last, shows_empty}
+use Rattle.lq_request.proofs.CutLemmas.{shows_ended, shows_long, shows_more, shows_last}
 use Rattle.lq_request.proofs.cut.find.Goals as goal
 
 pub returns-then-extent : goal.returns-then-extent
@@ -18,12 +18,7 @@ returns-then-not-ended c =
     let extent = subst (λ bytes. IsExtent bytes c.extent_of-extent.result) c.window.ensures c.extent_of-extent.ensures in
     shows_more c.args.ended c.args.held.now c.extent_of-extent.result extent c.if-extent.false c.if-held-gt-MESSAGE_LIMIT.false c.if-not-ended.true
 
-pub returns-then-extent-2 : goal.returns-then-extent-2
-returns-then-extent-2 c =
+pub returns-else-not-ended : goal.returns-else-not-ended
+returns-else-not-ended c =
     let extent = subst (λ bytes. IsExtent bytes c.extent_of-extent.result) c.window.ensures c.extent_of-extent.ensures in
-    shows_empty c.args.ended c.args.held.now c.extent_of-extent.result extent c.if-extent.false c.if-held-gt-MESSAGE_LIMIT.false c.if-not-ended.false c.if-extent-2.true
-
-pub returns-else-extent-2 : goal.returns-else-extent-2
-returns-else-extent-2 c =
-    let extent = subst (λ bytes. IsExtent bytes c.extent_of-extent.result) c.window.ensures c.extent_of-extent.ensures in
-    shows_last c.args.ended c.args.held.now c.extent_of-extent.result extent c.if-extent.false c.if-held-gt-MESSAGE_LIMIT.false c.if-not-ended.false c.if-extent-2.false
+    shows_last c.args.ended c.args.held.now c.extent_of-extent.result extent c.if-extent.false c.if-held-gt-MESSAGE_LIMIT.false c.if-not-ended.false

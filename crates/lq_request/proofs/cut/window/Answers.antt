@@ -1,5 +1,5 @@
 use Rattle.std.proofs.Common.{arith, sym, length-take}
-use Rattle.lq_request.proofs.CutLemmas.{take_whole}
+use Rattle.lq_request.proofs.ListLemmas.{take_whole}
 use Rattle.lq_request.proofs.cut.window.Goals as goal
 
 pub slice_bounds-result-end : goal.slice_bounds-result-end

@@ -1,44 +1,37 @@
-use Rattle.std.proofs.Common.{refl, sym, ap, ◌∙◌, subst, arith}
+use Rattle.std.proofs.Common.{◌≡◌, refl, sym, ap, ◌∙◌, subst, arith}
 use Rattle.lq_request.proofs.CutLemmas.{next_of, behind_of, part_of, front_of}
-use Rattle.lq_request.specs.Cutting.{taken_by}
-use Rattle.lq_request.specs.Messages.{IsNext, Query, TooLong}
+use Rattle.lq_request.proofs.OrderLemmas.{in_order}
+use Rattle.lq_request.specs.Cutting.{found_piece, shown, taken_by}
+use Rattle.lq_request.specs.Messages.{IsNext, More, TooLong, rest_behind, whole}
+use Rattle.lq_request.specs.declared.cut.Found.TheVariants as found
 use Rattle.lq_request.proofs.cut.Cut.next_message.Goals as goal
 
 pub returns-in-More : goal.returns-in-More
-returns-in-More c = (
-  (refl, (λ _. tt), behind_of c.args.ended c.self.inside.buffer.items c.self.inside.start c.self.inside.end _ _ c.held.ensures c.self.view_is _ _ (c.taken.ensures ∙ ap taken_by c.in-More.is) c.in-More.ensures),
-  record {
-    next = next_of c.args.ended c.self.inside.buffer.items c.self.inside.start c.self.inside.end _ _ c.held.ensures c.self.view_is _ c.in-More.ensures;
-    rest = tt;
-  },
-)
-
-pub returns-in-Empty : goal.returns-in-Empty
-returns-in-Empty c = (
-  (refl, (λ _. tt), behind_of c.args.ended c.self.inside.buffer.items c.self.inside.start c.self.inside.end _ _ c.held.ensures c.self.view_is _ _ (c.taken.ensures ∙ ap taken_by c.in-Empty.is) c.in-Empty.ensures),
-  record {
-    next = next_of c.args.ended c.self.inside.buffer.items c.self.inside.start c.self.inside.end _ _ c.held.ensures c.self.view_is _ c.in-Empty.ensures;
-    rest = tt;
-  },
-)
+returns-in-More c =
+    let next = next_of c.args.ended c.self.inside.buffer.items c.self.inside.start c.self.inside.end _ _ c.held.ensures c.self.view_is _ c.in-More.ensures in (
+      (refl, (λ _. tt), behind_of c.args.ended c.self.inside.buffer.items c.self.inside.start c.self.inside.end _ _ c.held.ensures c.self.view_is _ _ (c.taken.ensures ∙ ap taken_by c.in-More.is) c.in-More.ensures),
+      record { next = next; order = in_order c.args.ended c.args.self.now More next; rest = tt },
+    )
 
 pub returns-in-TooLong : goal.returns-in-TooLong
 returns-in-TooLong c =
-    let part = front_of c.args.ended c.self.inside.buffer.items c.self.inside.start c.self.inside.end _ _ c.held.ensures c.self.view_is _ 65536 c.deref-in-TooLong.ensures.value c.in-TooLong.ensures.within in (
+    let part = front_of c.args.ended c.self.inside.buffer.items c.self.inside.start c.self.inside.end _ _ c.held.ensures c.self.view_is _ 65536 c.deref-in-TooLong.ensures.value c.in-TooLong.ensures.within in
+    let next = subst (λ bytes. IsNext c.args.ended c.args.self.now (TooLong bytes)) (sym part) (next_of c.args.ended c.self.inside.buffer.items c.self.inside.start c.self.inside.end _ _ c.held.ensures c.self.view_is _ c.in-TooLong.ensures) in (
       (refl, (λ _. tt), behind_of c.args.ended c.self.inside.buffer.items c.self.inside.start c.self.inside.end _ _ c.held.ensures c.self.view_is _ _ (c.taken.ensures ∙ ap taken_by c.in-TooLong.is) c.in-TooLong.ensures),
-      record {
-        next = subst (λ bytes. IsNext c.args.ended c.args.self.now (TooLong bytes)) (sym part) (next_of c.args.ended c.self.inside.buffer.items c.self.inside.start c.self.inside.end _ _ c.held.ensures c.self.view_is _ c.in-TooLong.ensures);
-        rest = tt;
-      },
+      record { next = next; order = in_order c.args.ended c.args.self.now _ next; rest = tt },
     )
 
-pub returns-in-Query : goal.returns-in-Query
-returns-in-Query c =
-    let within = c.in-Query.ensures.within in
-    let part = part_of c.args.ended c.self.inside.buffer.items c.self.inside.start c.self.inside.end _ _ c.held.ensures c.self.view_is _ c.in-Query.extent.start c.in-Query.extent.end c.deref.ensures.value within.0 (omega (arith, within)) in (
-      (refl, (λ _. tt), behind_of c.args.ended c.self.inside.buffer.items c.self.inside.start c.self.inside.end _ _ c.held.ensures c.self.view_is _ _ (c.taken.ensures ∙ ap taken_by c.in-Query.is) c.in-Query.ensures),
-      record {
-        next = subst (λ bytes. IsNext c.args.ended c.args.self.now (Query bytes)) (sym part) (next_of c.args.ended c.self.inside.buffer.items c.self.inside.start c.self.inside.end _ _ c.held.ensures c.self.view_is _ c.in-Query.ensures);
-        rest = tt;
-      },
+pub returns-in-Message : goal.returns-in-Message
+returns-in-Message c =
+    let within = c.in-Message.ensures.within in
+    let part = part_of c.args.ended c.self.inside.buffer.items c.self.inside.start c.self.inside.end _ _ c.held.ensures c.self.view_is _ c.in-Message.extent.start c.in-Message.extent.end c.deref.ensures.value within.0 (omega (arith, within)) in
+    let piece : shown c.message.result ≡ found_piece c.args.self.now (found.Message c.in-Message.extent) = c.message.ensures ∙ ap (whole c.in-Message.extent.kind) part in
+    let next = subst (IsNext c.args.ended c.args.self.now) (sym piece) (next_of c.args.ended c.self.inside.buffer.items c.self.inside.start c.self.inside.end _ _ c.held.ensures c.self.view_is _ c.in-Message.ensures) in (
+      (
+        refl,
+        (λ _. tt),
+        behind_of c.args.ended c.self.inside.buffer.items c.self.inside.start c.self.inside.end _ _ c.held.ensures c.self.view_is _ _ (c.taken.ensures ∙ ap taken_by c.in-Message.is) c.in-Message.ensures
+            ∙ ap (λ p. rest_behind p c.args.self.now) (sym piece),
+      ),
+      record { next = next; order = in_order c.args.ended c.args.self.now (shown c.message.result) next; rest = tt },
     )

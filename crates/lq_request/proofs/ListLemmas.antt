@@ -1,0 +1,30 @@
+-- Fronts and parts of lists.
+use Rattle.std.proofs.Common.{◌≡◌, ℕ, ◌+◌, ◌-◌, ◌≤◌, List, ◌++◌, length, take, drop, sym, ap, ◌∙◌, arith, append-nil}
+use Rattle.std.proofs.lemmas.Bool.{cases_lt}
+use Rattle.std.proofs.lemmas.List.{drop-take, take-append-le}
+use Rattle.std.proofs.Math.Seq.{take-append-add}
+use Rattle.std.proofs.Math.Logic.{⊎_elim}
+use Rattle.std.proofs.lemmas.Grind.{common_steps}
+
+pub take_whole : (n : ℕ) (bytes : List ℕ) → length bytes ≤ n → take n bytes ≡ bytes
+take_whole n bytes small = grind (arith, common_steps)
+
+pub take_front : (m n : ℕ) (bytes : List ℕ) → m ≤ n → take m (take n bytes) ≡ take m bytes
+take_front m n bytes low = grind (arith, common_steps)
+
+-- a part of a front is a part of the whole
+pub part_of_front : (bytes : List ℕ) (start end n : ℕ) → start ≤ end → end ≤ n → take (end - start) (drop start (take n bytes)) ≡ take (end - start) (drop start bytes)
+part_of_front bytes start end n low high =
+    let whole : start + (n - start) ≡ n = omega arith in
+    ap (λ k. take (end - start) (drop start (take k bytes))) (sym whole) ∙ ap (take (end - start)) (drop-take start (n - start) bytes)
+    ∙ take_front (end - start) (n - start) (drop start bytes) (omega arith)
+
+-- a front of more bytes
+pub front_more : (n : ℕ) (bytes more : List ℕ) → take n (bytes ++ more) ≡ take n bytes ++ take (n - length bytes) more
+front_more n bytes more = ⊎_elim
+    (λ low. let none : n - length bytes ≡ 0 = omega arith in
+    take-append-le n bytes more (omega arith) ∙ sym (append-nil (take n bytes)) ∙ ap (λ k. take n bytes ++ take k more) (sym none))
+    (λ high. let whole : length bytes + (n - length bytes) ≡ n = omega arith in
+    ap (λ k. take k (bytes ++ more)) (sym whole) ∙ take-append-add bytes more (n - length bytes)
+    ∙ ap (λ front. front ++ take (n - length bytes) more) (sym (take_whole n bytes high)))
+    (cases_lt n (length bytes))

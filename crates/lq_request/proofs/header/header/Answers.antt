@@ -1,6 +1,0 @@
-use Rattle.std.proofs.Common.{map, ap, ◌∙◌}
-use Rattle.lq_request.proofs.TextLemmas.{borrowed_utf8}
-use Rattle.lq_request.proofs.header.header.Goals as goal
-
-pub add_columns-requires : goal.add_columns-requires
-add_columns-requires c = borrowed_utf8 _ c.args.value.now (ap (map (λ word. word.now)) c.deref.ensures.value ∙ c.in_ok-words.ensures) c.requires.value

@@ -1,0 +1,102 @@
+-- What is done with the message that stands first, by its kind.
+use Rattle.std.proofs.Common.{◌≡◌, ◌≢◌, ℕ, Bool, true, false, List, [], ◌∷◌, ◌++◌, take, nat_lt, length, if◌then◌else◌, refl, sym, ap, ◌∙◌}
+use Rattle.std.specs.Prelude.{Option, not}
+use Rattle.std.specs.Io.KnownBytes.{Appends}
+use Rattle.std.proofs.KnownBytes.{Appends-nil}
+use Rattle.lq_request.specs.Messages.{Message, Piece, Query, Command, TooLong, Empty, More, messages, whole_messages, first_piece, message_of, message_at, whole, command_from, query_from, IsCutOff, IsLast}
+use Rattle.lq_request.specs.Request.{asked}
+use Rattle.lq_request.specs.declared.cut.TheConstants.{MESSAGE_LIMIT}
+use Rattle.lqd.specs.Replies.{keeps, reply_to}
+use Rattle.lqd.specs.Session.{Standing, ComesFirst, Serves, ServesLast, FindsNone, Breaks, BreaksReply, behind}
+use Rattle.lqd.specs.declared.session.ServeErr.{ServeErr}
+use Rattle.lqd.specs.declared.session.ServeErr.TheVariants as error
+
+comes_first : (ended : Bool) (held left : List ℕ) (piece : Piece) → IsCutOff ended held piece left → ComesFirst ended held piece
+comes_first ended held left piece cut = record {
+  all = λ rest closed. (messages (left ++ rest), cut.all rest closed);
+  known = λ rest more. (whole_messages (left ++ rest), cut.known rest more);
+}
+
+pub query_served : (ended : Bool) (held left text : List ℕ) (old : Standing) (out_old out : Option (List ℕ)) → IsCutOff ended held (Query text) left
+    → true ≡ keeps (asked text) → Appends out_old out (reply_to (asked text) old.at.state) → Serves ended held left old old out_old out
+query_served ended held left text old out_old out cut keep written = record {
+  piece = Query text;
+  cut = cut;
+  kept = ap not (sym keep);
+  state = refl;
+  written = written;
+}
+
+pub last_query_served : (ended : Bool) (held left text : List ℕ) (old : Standing) (out_old out : Option (List ℕ)) → IsCutOff ended held (Query text) left
+    → false ≡ keeps (asked text) → Appends out_old out (reply_to (asked text) old.at.state) → ServesLast ended held old out_old out
+last_query_served ended held left text old out_old out cut keep written = record {
+  piece = Query text;
+  first = comes_first ended held left (Query text) cut;
+  last = ap not (sym keep);
+  written = written;
+}
+
+pub query_broken : (fault : ServeErr) (ended : Bool) (held left text : List ℕ) (old : Standing) (out_old out : Option (List ℕ)) → IsCutOff ended held (Query text) left
+    → BreaksReply fault (reply_to (asked text) old.at.state) out_old out → Breaks fault ended held old out_old out
+query_broken error.Read ended held left text old out_old out cut breaks = breaks
+query_broken error.Write ended held left text old out_old out cut breaks = record {
+  piece = Query text;
+  first = comes_first ended held left (Query text) cut;
+  front = breaks;
+}
+query_broken error.Memory ended held left text old out_old out cut breaks = breaks
+
+pub command_served : (ended : Bool) (held left text : List ℕ) (old new : Standing) (out : Option (List ℕ)) → IsCutOff ended held (Command text) left
+    → new ≡ behind old (Command text) → Serves ended held left old new out out
+command_served ended held left text old new out cut state = record {
+  piece = Command text;
+  cut = cut;
+  kept = refl;
+  state = state;
+  written = Appends-nil out;
+}
+
+pub too_long_served : (ended : Bool) (held : List ℕ) (old : Standing) (out : Option (List ℕ)) → IsLast ended held (TooLong (take MESSAGE_LIMIT held))
+    → ServesLast ended held old out out
+too_long_served ended held old out is = record {
+  piece = TooLong (take MESSAGE_LIMIT held);
+  first = record {
+    all = λ rest closed. ([], is.all rest closed);
+    known = λ rest more. ([], is.known rest more);
+  };
+  last = refl;
+  written = Appends-nil out;
+}
+
+-- ---- no message is left only at the end of the input
+
+whole_some : (is : Bool) (before : ℕ) (line text bytes : List ℕ) (first : Message) → first ≡ (if is then command_from before line else query_from before text bytes)
+    → whole first.kind first.text ≢ Empty
+whole_some true before line text bytes first is = λ empty. let no = ap (λ found. whole found.kind found.text) (sym is) ∙ empty in cc
+whole_some false before line text bytes first is = λ empty. let no = ap (λ found. whole found.kind found.text) (sym is) ∙ empty in cc
+
+at_some : (before : ℕ) (lines : List (List ℕ)) (bytes : List ℕ) → (message_at before lines bytes).ended ≡ true
+    → whole (message_at before lines bytes).kind (message_at before lines bytes).text ≢ Empty
+at_some before [] bytes ended = absurd (cc)
+at_some before (line ∷ lines) bytes ended =
+    whole_some _ before line _ bytes (message_at before (line ∷ lines) bytes) refl
+
+of_some : (bytes : List ℕ) → (message_of bytes).ended ≡ true → whole (message_of bytes).kind (message_of bytes).text ≢ Empty
+unfolding message_of
+of_some bytes ended = at_some _ _ bytes ended
+
+next_some : (ended large : Bool) (front : List ℕ) (piece : Piece) → (ended ≡ true → piece ≢ Empty)
+    → Empty ≢ (if ended then piece else if large then TooLong front else More)
+next_some true large front piece some = λ empty. some refl (sym empty)
+next_some false true front piece some = λ empty. absurd (cc)
+next_some false false front piece some = λ empty. absurd (cc)
+
+empty_ended : (ended : Bool) (held : List ℕ) → Empty ≡ first_piece ended held → ended ≡ true
+unfolding first_piece
+empty_ended true held empty = refl
+empty_ended false held empty =
+    let first : Message = message_of (take MESSAGE_LIMIT held) in
+    absurd (next_some first.ended (nat_lt MESSAGE_LIMIT (length held)) (take MESSAGE_LIMIT held) (whole first.kind first.text) (of_some (take MESSAGE_LIMIT held)) empty)
+
+pub none_found : (ended : Bool) (held : List ℕ) (out : Option (List ℕ)) → Empty ≡ first_piece ended held → messages held ≡ [] → FindsNone ended held out out
+none_found ended held out is none = record { end = empty_ended ended held is; none = none; written = Appends-nil out }
