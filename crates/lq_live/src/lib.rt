@@ -15,5 +15,7 @@ mod remark;
 mod schedule;
 mod stage;
 mod step;
+#[cfg(test)]
+mod tests;
 
 pub use live::Live;
