@@ -127,6 +127,20 @@ impl Live {
         &self.parts.service_status[id.0 as usize]
     }
 
+    /// The statuses of the hosts, in the order of the base.
+    pub fn host_statuses(&self) -> &[Status]
+        ensures { result.now ≡ self.now.state.host_status }
+    {
+        &self.parts.host_status
+    }
+
+    /// The statuses of the services, in the order of the base.
+    pub fn service_statuses(&self) -> &[Status]
+        ensures { result.now ≡ self.now.state.service_status }
+    {
+        &self.parts.service_status
+    }
+
     /// Whether people are notified at all.
     pub fn notifications(&self) -> bool
         ensures { result ≡ self.now.state.notifications }

@@ -336,14 +336,14 @@ type Checked = (u64, i64, u8, u32, usize);
 
 fn assert_results<R: Abort + AllocGlobal>(
     rt: &R,
+    live: &mut Live,
     object: Object,
     steps: &[Checked],
 ) -> Result<(), Fail> {
     let alloc = rt.alloc();
-    let mut live = opened(alloc)?;
     for (code, state, state_type, attempt, lines) in steps {
-        let written = play(alloc, &mut live, 100, result(alloc, object, *code))?;
-        let status = status_of(rt, &live, object);
+        let written = play(alloc, live, 100, result(alloc, object, *code))?;
+        let status = status_of(rt, live, object);
         assert_eq!(rt; status.state, *state);
         assert_eq!(rt; status.state_type, *state_type);
         assert_eq!(rt; status.current_attempt, *attempt, "after {code}");
@@ -354,8 +354,10 @@ fn assert_results<R: Abort + AllocGlobal>(
 
 #[test]
 fn results_of_a_service_with_three_attempts(rt: HostRuntime) -> Result<(), Fail> {
+    let mut live = opened(rt.alloc())?;
     assert_results(
         &rt,
+        &mut live,
         HTTP,
         &[
             (2, 2, 0, 1, 2),
@@ -378,8 +380,10 @@ fn results_of_a_service_with_three_attempts(rt: HostRuntime) -> Result<(), Fail>
 
 #[test]
 fn results_of_a_service_with_one_attempt(rt: HostRuntime) -> Result<(), Fail> {
+    let mut live = opened(rt.alloc())?;
     assert_results(
         &rt,
+        &mut live,
         DISK,
         &[
             (0, 0, 1, 1, 1),
@@ -394,8 +398,10 @@ fn results_of_a_service_with_one_attempt(rt: HostRuntime) -> Result<(), Fail> {
 
 #[test]
 fn results_of_a_host_are_hard(rt: HostRuntime) -> Result<(), Fail> {
+    let mut live = opened(rt.alloc())?;
     assert_results(
         &rt,
+        &mut live,
         WEB2,
         &[
             (0, 0, 1, 1, 1),
@@ -424,18 +430,23 @@ const SECONDS: &[Seconds] = &[
     (180, 0, 180, 160, 0),
 ];
 
-#[test]
-fn a_status_keeps_its_seconds(rt: HostRuntime) -> Result<(), Fail> {
+fn assert_seconds<R: Abort + AllocGlobal>(rt: &R, live: &mut Live) -> Result<(), Fail> {
     let alloc = rt.alloc();
-    let mut live = opened(alloc)?;
     for (time, code, change, hard_change, hard_state) in SECONDS {
-        play(alloc, &mut live, *time, result(alloc, HTTP, *code))?;
-        let status = status_of(&rt, &live, HTTP);
+        play(alloc, live, *time, result(alloc, HTTP, *code))?;
+        let status = status_of(rt, live, HTTP);
         assert_eq!(rt; status.last_check, *time);
         assert_eq!(rt; status.last_state_change, *change, "at {time}");
         assert_eq!(rt; status.last_hard_state_change, *hard_change, "at {time}");
         assert_eq!(rt; status.last_hard_state, *hard_state, "at {time}");
     }
+    Ok(())
+}
+
+#[test]
+fn a_status_keeps_its_seconds(rt: HostRuntime) -> Result<(), Fail> {
+    let mut live = opened(rt.alloc())?;
+    assert_seconds(&rt, &mut live)?;
     assert_eq!(rt; status_of(&rt, &live, HTTP).has_been_checked, 1);
     assert_eq!(rt; status_of(&rt, &live, DISK).has_been_checked, 0);
     Ok(())
@@ -451,10 +462,8 @@ const OUTPUTS: &[(&str, &str, &str)] = &[
     ("", "", ""),
 ];
 
-#[test]
-fn an_output_is_split_at_its_first_bar(rt: HostRuntime) -> Result<(), Fail> {
+fn assert_outputs<R: Abort + AllocGlobal>(rt: &R, live: &mut Live) -> Result<(), Fail> {
     let alloc = rt.alloc();
-    let mut live = opened(alloc)?;
     for (output, plugin_output, perf_data) in OUTPUTS {
         let output = Text::new(alloc, *output)?;
         let act = Act::ProcessHostCheckResult {
@@ -462,11 +471,18 @@ fn an_output_is_split_at_its_first_bar(rt: HostRuntime) -> Result<(), Fail> {
             code: 1,
             output,
         };
-        play(alloc, &mut live, 100, act)?;
-        let status = status_of(&rt, &live, WEB1);
+        play(alloc, live, 100, act)?;
+        let status = status_of(rt, live, WEB1);
         assert_eq!(rt; status.plugin_output.as_str(), *plugin_output);
         assert_eq!(rt; status.perf_data.as_str(), *perf_data);
     }
+    Ok(())
+}
+
+#[test]
+fn an_output_is_split_at_its_first_bar(rt: HostRuntime) -> Result<(), Fail> {
+    let mut live = opened(rt.alloc())?;
+    assert_outputs(&rt, &mut live)?;
     Ok(())
 }
 
@@ -492,44 +508,57 @@ const WITHOUT_EFFECT: &[Command] = &[
     Command::Unknown,
 ];
 
-#[test]
-fn a_command_without_effect_writes_its_line(rt: HostRuntime) -> Result<(), Fail> {
+fn assert_without_effect<R: Abort + AllocGlobal>(rt: &R, live: &mut Live) -> Result<(), Fail> {
     let alloc = rt.alloc();
-    let mut live = opened(alloc)?;
     let mut time = 100_u64;
     for command in WITHOUT_EFFECT {
-        let written = play(alloc, &mut live, time, act(alloc, *command))?;
+        let written = play(alloc, live, time, act(alloc, *command))?;
         assert_eq!(rt; written, 1, "at {time}");
         assert_eq!(rt; live.now(), time);
-        assert_comments(&rt, &live, &[]);
-        assert_downtimes(&rt, &live, &[]);
+        assert_comments(rt, live, &[]);
+        assert_downtimes(rt, live, &[]);
         time = time.wrapping_add(1);
     }
-    assert_eq!(rt; live.count(), 17);
+    Ok(())
+}
+
+fn assert_unchecked(rt: &impl Abort, live: &Live) {
     for object in [WEB1, WEB2, HTTP, DISK, PING] {
-        assert_eq!(rt; status_of(&rt, &live, object).has_been_checked, 0);
+        assert_eq!(rt; status_of(rt, live, object).has_been_checked, 0);
     }
+}
+
+#[test]
+fn a_command_without_effect_writes_its_line(rt: HostRuntime) -> Result<(), Fail> {
+    let mut live = opened(rt.alloc())?;
+    assert_without_effect(&rt, &mut live)?;
+    assert_eq!(rt; live.count(), 17);
+    assert_unchecked(&rt, &live);
     Ok(())
 }
 
 // ---- comments and acknowledgements
 
-/// The second, the command, the type of the acknowledgement of http and the comments behind it.
+/// The second, the command, the type of the object's acknowledgement and the comments behind it.
 type Remarked = (u64, Command, u8, &'static [Remark]);
 
-fn assert_remarked<R: Abort + AllocGlobal>(rt: &R, steps: &'static [Remarked]) -> Result<(), Fail> {
+fn assert_remarked<R: Abort + AllocGlobal>(
+    rt: &R,
+    live: &mut Live,
+    object: Object,
+    steps: &'static [Remarked],
+) -> Result<(), Fail> {
     let alloc = rt.alloc();
-    let mut live = opened(alloc)?;
     for (time, command, acknowledgement_type, remarks) in steps {
-        play(alloc, &mut live, *time, act(alloc, *command))?;
-        let status = status_of(rt, &live, HTTP);
+        play(alloc, live, *time, act(alloc, *command))?;
+        let status = status_of(rt, live, object);
         assert_eq!(rt;
             status.acknowledgement_type,
             *acknowledgement_type,
             "at {time}"
         );
         assert_eq!(rt; status.acknowledged, u8::from(*acknowledgement_type != 0));
-        assert_comments(rt, &live, *remarks);
+        assert_comments(rt, live, *remarks);
     }
     Ok(())
 }
@@ -604,10 +633,30 @@ const NORMAL: &[Remarked] = &[
     (107, Command::Result(HTTP, 0), 0, &[OF_PING, OF_HTTP, KEPT]),
 ];
 
+const ON_WEB1: Remark = (1, WEB1, 4, 0, 101);
+
+const STAYS: Remark = (2, WEB1, 4, 1, 104);
+
+const OF_A_HOST: &[Remarked] = &[
+    (99, Command::Acknowledge(WEB1, 2, 0), 0, &[]),
+    (100, Command::Result(WEB1, 1), 0, &[]),
+    (101, Command::Acknowledge(WEB1, 2, 0), 2, &[ON_WEB1]),
+    (102, Command::RemoveAcknowledgement(WEB2), 2, &[ON_WEB1]),
+    (103, Command::RemoveAcknowledgement(WEB1), 0, &[]),
+    (104, Command::Acknowledge(WEB1, 1, 1), 1, &[STAYS]),
+    (105, Command::Result(WEB1, 2), 0, &[STAYS]),
+];
+
 #[test]
 fn comments_and_acknowledgements_come_and_go(rt: HostRuntime) -> Result<(), Fail> {
-    for steps in [COMMENTS, STICKY, NORMAL] {
-        assert_remarked(&rt, steps)?;
+    for (object, steps) in [
+        (HTTP, COMMENTS),
+        (HTTP, STICKY),
+        (HTTP, NORMAL),
+        (WEB1, OF_A_HOST),
+    ] {
+        let mut live = opened(rt.alloc())?;
+        assert_remarked(&rt, &mut live, object, steps)?;
     }
     Ok(())
 }
@@ -619,14 +668,14 @@ type Scheduled = (u64, Command, usize, &'static [Span]);
 
 fn assert_scheduled<R: Abort + AllocGlobal>(
     rt: &R,
+    live: &mut Live,
     steps: &'static [Scheduled],
 ) -> Result<(), Fail> {
     let alloc = rt.alloc();
-    let mut live = opened(alloc)?;
     for (time, command, lines, spans) in steps {
-        let written = play(alloc, &mut live, *time, act(alloc, *command))?;
+        let written = play(alloc, live, *time, act(alloc, *command))?;
         assert_eq!(rt; written, *lines, "at {time}");
-        assert_downtimes(rt, &live, *spans);
+        assert_downtimes(rt, live, *spans);
     }
     Ok(())
 }
@@ -686,6 +735,8 @@ const LONG: Span = (2, WEB1, 100, 500, 153, true);
 
 const LONGER: Span = (3, WEB1, 100, 600, 154, true);
 
+const OF_SERVICE: Span = (4, HTTP, 100, 600, 158, true);
+
 const REMOVED: &[Scheduled] = &[
     (150, Command::Downtime(WEB1, 200, 300), 1, &[TO_COME]),
     (151, Command::DelSvcDowntime(1), 1, &[TO_COME]),
@@ -695,12 +746,16 @@ const REMOVED: &[Scheduled] = &[
     (155, Command::DelSvcDowntime(2), 1, &[LONG, LONGER]),
     (156, Command::DelHostDowntime(2), 1, &[LONGER]),
     (157, Command::DelHostDowntime(3), 2, &[]),
+    (158, Command::Downtime(HTTP, 100, 600), 2, &[OF_SERVICE]),
+    (159, Command::DelHostDowntime(4), 1, &[OF_SERVICE]),
+    (160, Command::DelSvcDowntime(4), 2, &[]),
 ];
 
 #[test]
 fn downtimes_begin_and_end(rt: HostRuntime) -> Result<(), Fail> {
     for steps in [BEGUN_AND_ENDED, OVER_ONE_OBJECT, REMOVED] {
-        assert_scheduled(&rt, steps)?;
+        let mut live = opened(rt.alloc())?;
+        assert_scheduled(&rt, &mut live, steps)?;
     }
     Ok(())
 }
@@ -717,15 +772,20 @@ const TAKEN: &[(u64, u64, u64, u64, usize)] = &[
     (200, 300, 1, 0, 2),
 ];
 
-#[test]
-fn a_downtime_is_taken_only_where_it_is_to_come(rt: HostRuntime) -> Result<(), Fail> {
+fn assert_taken<R: Abort + AllocGlobal>(rt: &R, live: &mut Live) -> Result<(), Fail> {
     let alloc = rt.alloc();
-    let mut live = opened(alloc)?;
     for (start, end, fixed, trigger, taken) in TAKEN {
         let act = host_downtime(alloc, *start, *end, *fixed, *trigger);
-        play(alloc, &mut live, 100, act)?;
+        play(alloc, live, 100, act)?;
         assert_eq!(rt; live.downtimes().len(), *taken, "{start} to {end}");
     }
+    Ok(())
+}
+
+#[test]
+fn a_downtime_is_taken_only_where_it_is_to_come(rt: HostRuntime) -> Result<(), Fail> {
+    let mut live = opened(rt.alloc())?;
+    assert_taken(&rt, &mut live)?;
     Ok(())
 }
 
@@ -741,20 +801,25 @@ const SWITCHES: &[(Command, u8, u8, bool)] = &[
     (Command::EnableAll, 1, 0, true),
 ];
 
-#[test]
-fn notifications_are_switched(rt: HostRuntime) -> Result<(), Fail> {
+fn assert_switched<R: Abort + AllocGlobal>(rt: &R, live: &mut Live) -> Result<(), Fail> {
     let alloc = rt.alloc();
-    let mut live = opened(alloc)?;
-    assert_eq!(rt; status_of(&rt, &live, WEB1).notifications_enabled, 1);
-    assert_eq!(rt; status_of(&rt, &live, PING).notifications_enabled, 0);
     for (command, of_host, of_service, of_all) in SWITCHES {
-        play(alloc, &mut live, 100, act(alloc, *command))?;
-        let host = status_of(&rt, &live, WEB1);
+        play(alloc, live, 100, act(alloc, *command))?;
+        let host = status_of(rt, live, WEB1);
         assert_eq!(rt; host.notifications_enabled, *of_host);
-        let service = status_of(&rt, &live, PING);
+        let service = status_of(rt, live, PING);
         assert_eq!(rt; service.notifications_enabled, *of_service);
         assert_eq!(rt; live.notifications(), *of_all);
     }
+    Ok(())
+}
+
+#[test]
+fn notifications_are_switched(rt: HostRuntime) -> Result<(), Fail> {
+    let mut live = opened(rt.alloc())?;
+    assert_eq!(rt; status_of(&rt, &live, WEB1).notifications_enabled, 1);
+    assert_eq!(rt; status_of(&rt, &live, PING).notifications_enabled, 0);
+    assert_switched(&rt, &mut live)?;
     assert_eq!(rt; status_of(&rt, &live, WEB2).notifications_enabled, 0);
     assert_eq!(rt; status_of(&rt, &live, HTTP).notifications_enabled, 1);
     Ok(())
@@ -772,16 +837,21 @@ const MOMENTS: &[(u64, u64)] = &[
     (100, 999_999_999_999),
 ];
 
+fn assert_moments<R: Abort + AllocGlobal>(rt: &R, live: &mut Live) -> Result<(), Fail> {
+    let alloc = rt.alloc();
+    for (time, now) in MOMENTS {
+        play(alloc, live, *time, result(alloc, HTTP, 1))?;
+        assert_eq!(rt; live.now(), *now, "at {time}");
+        assert_eq!(rt; status_of(rt, live, HTTP).last_check, *now);
+    }
+    Ok(())
+}
+
 #[test]
 fn the_present_second_only_rises(rt: HostRuntime) -> Result<(), Fail> {
-    let alloc = rt.alloc();
-    let mut live = opened(alloc)?;
+    let mut live = opened(rt.alloc())?;
     assert_eq!(rt; live.now(), 0);
-    for (time, now) in MOMENTS {
-        play(alloc, &mut live, *time, result(alloc, HTTP, 1))?;
-        assert_eq!(rt; live.now(), *now, "at {time}");
-        assert_eq!(rt; status_of(&rt, &live, HTTP).last_check, *now);
-    }
+    assert_moments(&rt, &mut live)?;
     assert_eq!(rt; live.count(), 8);
     Ok(())
 }

@@ -1,50 +1,85 @@
--- The tables and their columns, in order, by the manual's names.
-use Rattle.std.specs.Prelude.{ℕ, Option, List, [], ◌∷◌, ◌++◌, map, find, bytes_eq, codes}
+-- The tables: their columns in order, and the one that has a name.
+use Rattle.std.specs.Prelude.{ℕ, Option, Some, None, List, [], ◌∷◌, map, find, bytes_eq, nat_eq, drop, length, if◌then◌else◌}
+use Rattle.std.specs.List.{flat_map, starts_with}
+use Rattle.std.specs.Option.{option_or, option_and_then}
 use Rattle.lq_records.specs.declared.columns.Table.{Table}
-use Rattle.lq_records.specs.declared.columns.Table.TheVariants.{Hosts}
-use Rattle.lq_records.specs.declared.columns.StatusColumn.{StatusColumn}
-use Rattle.lq_records.specs.declared.columns.StatusColumn.TheVariants.{State}
-use Rattle.lq_records.specs.declared.columns.HostColumn.{HostColumn}
-use Rattle.lq_records.specs.declared.columns.HostColumn.TheVariants.{Name, Alias, Address, Status}
-use Rattle.lq_records.specs.declared.columns.OwnColumn.{OwnColumn}
-use Rattle.lq_records.specs.declared.columns.OwnColumn.TheVariants as own
+use Rattle.lq_records.specs.declared.columns.Table.TheVariants as table
+use Rattle.lq_records.specs.declared.columns.Subject.{Subject}
+use Rattle.lq_records.specs.declared.columns.Subject.TheVariants as subject
+use Rattle.lq_records.specs.declared.columns.Prefix.{Prefix}
+use Rattle.lq_records.specs.declared.columns.Prefix.TheVariants as prefix
+use Rattle.lq_records.specs.declared.columns.Part.{Part}
 use Rattle.lq_records.specs.declared.columns.Col.{Col}
+use Rattle.lq_records.specs.Names.{full_name, own_prefix, table_name}
+use Rattle.lq_records.specs.Order.{own_columns}
 
 -- ---- tables
 
 abbrev pub tables : List Table
-tables = Hosts ∷ []
-
-abbrev pub table_name : Table → List ℕ
-table_name Hosts = codes "hosts"
+tables =
+    table.Hosts ∷ table.Services ∷ table.HostGroups ∷ table.ServiceGroups ∷ table.Contacts ∷ table.ContactGroups ∷ table.Commands ∷ table.TimePeriods
+    ∷ table.Downtimes ∷ table.Comments ∷ table.Status ∷ table.Columns ∷ table.HostsByGroup ∷ table.ServicesByGroup ∷ table.ServicesByHostGroup ∷ []
 
 -- the table that has a name
 abbrev pub table_of : List ℕ → Option Table
 table_of name = find (λ table. bytes_eq name (table_name table)) tables
 
+-- what the rows of a table are about
+abbrev pub subject_of : Table → Subject
+subject_of table.Hosts = subject.Host
+subject_of table.Services = subject.Service
+subject_of table.HostGroups = subject.HostGroup
+subject_of table.ServiceGroups = subject.ServiceGroup
+subject_of table.Contacts = subject.Contact
+subject_of table.ContactGroups = subject.ContactGroup
+subject_of table.Commands = subject.Command
+subject_of table.TimePeriods = subject.Period
+subject_of table.Downtimes = subject.Downtime
+subject_of table.Comments = subject.Comment
+subject_of table.Status = subject.Program
+subject_of table.Columns = subject.Schema
+subject_of table.HostsByGroup = subject.Host
+subject_of table.ServicesByGroup = subject.Service
+subject_of table.ServicesByHostGroup = subject.Service
+
+abbrev pub part : Prefix → Subject → Part
+part prefix subject = record { prefix = prefix; subject = subject }
+
+-- whose columns a table has beside its own
+abbrev pub joined_of : Table → List Part
+joined_of table.Hosts = []
+joined_of table.Services = part prefix.Host subject.Host ∷ []
+joined_of table.HostGroups = []
+joined_of table.ServiceGroups = []
+joined_of table.Contacts = []
+joined_of table.ContactGroups = []
+joined_of table.Commands = []
+joined_of table.TimePeriods = []
+joined_of table.Downtimes = part prefix.Host subject.Host ∷ part prefix.Service subject.Service ∷ []
+joined_of table.Comments = part prefix.Host subject.Host ∷ part prefix.Service subject.Service ∷ []
+joined_of table.Status = []
+joined_of table.Columns = []
+joined_of table.HostsByGroup = part prefix.HostGroup subject.HostGroup ∷ []
+joined_of table.ServicesByGroup = part prefix.Host subject.Host ∷ part prefix.ServiceGroup subject.ServiceGroup ∷ []
+joined_of table.ServicesByHostGroup = part prefix.Host subject.Host ∷ part prefix.HostGroup subject.HostGroup ∷ []
+
 -- ---- columns
 
-abbrev pub status_columns : List StatusColumn
-status_columns = State ∷ []
+abbrev pub part_columns : Part → List Col
+part_columns part = map (λ column. record { prefix = part.prefix; own = column }) (own_columns part.subject)
 
-abbrev pub status_column_name : StatusColumn → List ℕ
-status_column_name State = codes "state"
+-- the table's own columns, then those of each joined part
+unfoldable pub columns_of : Table → List Col
+columns_of table = flat_map part_columns (part prefix.Own (subject_of table) ∷ joined_of table)
 
-abbrev pub host_columns : List HostColumn
-host_columns = (Name ∷ Alias ∷ Address ∷ []) ++ map Status status_columns
+-- the column of a table that has a whole name
+abbrev pub named : Table → List ℕ → Option Col
+named table name = find (λ column. bytes_eq name (full_name column)) (columns_of table)
 
-abbrev pub host_column_name : HostColumn → List ℕ
-host_column_name Name = codes "name"
-host_column_name Alias = codes "alias"
-host_column_name Address = codes "address"
-host_column_name (Status column) = status_column_name column
+-- a text behind a front, None where it doesn't begin with that
+abbrev pub without_front : List ℕ → List ℕ → Option (List ℕ)
+without_front name front = if starts_with nat_eq name front then Some (drop (length front) name) else None
 
-abbrev pub own_name : OwnColumn → List ℕ
-own_name (own.Host column) = host_column_name column
-
-abbrev pub columns_of : Table → List Col
-columns_of Hosts = map (λ column. record { own = own.Host column }) host_columns
-
--- the column of a table that has a name
-abbrev pub column_of : Table → List ℕ → Option Col
-column_of table name = find (λ column. bytes_eq name (own_name column.own)) (columns_of table)
+-- The column that a name means: that which has the name, else that which has it behind the table's own prefix.
+unfoldable pub column_of : Table → List ℕ → Option Col
+column_of table name = option_or (named table name) (option_and_then (named table) (without_front name (own_prefix (subject_of table))))

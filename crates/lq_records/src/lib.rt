@@ -7,7 +7,10 @@ mod clean;
 mod columns;
 mod ids;
 mod items;
+mod kinds;
 mod log_entry;
+mod names;
+mod order;
 mod refusal;
 mod schema;
 mod status;
@@ -22,14 +25,19 @@ pub use base::{
     ServiceGroup,
 };
 pub use clean::clean_text;
-pub use columns::{Col, HostColumn, Name, OwnColumn, StatusColumn, Table};
+pub use columns::{
+    Col, ColKind, CommandColumn, CommentColumn, ContactColumn, ContactGroupColumn, DowntimeColumn,
+    HostColumn, HostCounter, HostGroupColumn, Name, ObjectColumn, OwnColumn, Part, PeriodColumn,
+    Prefix, ProgramColumn, SchemaColumn, ServiceColumn, ServiceCounter, ServiceGroupColumn,
+    StatusColumn, Subject, Table,
+};
 pub use ids::{
     CommandId, ContactGroupId, ContactId, HostGroupId, HostId, PeriodId, ServiceGroupId, ServiceId,
 };
 pub use items::Items;
 pub use log_entry::{Kind, LogEntry};
 pub use refusal::Refusal;
-pub use schema::{column, column_at, column_count, column_name, table};
+pub use schema::{column, column_at, column_count, column_name, kind, table, tables};
 pub use status::{Comment, Downtime, Object, Status};
 pub use text::Text;
 pub use update::{Act, Update};

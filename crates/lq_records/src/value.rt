@@ -1,8 +1,19 @@
-/// The value of a cell.
-#[derive(Clone, Copy, Debug, PartialEq, Eq)]
+use crate::items::Items;
+use crate::text::Text;
+
+/// The value of a cell. Single texts are borrowed, lists are copies.
+#[derive(Debug, Drop)]
 pub enum Val<'a> {
     /// A whole number.
     Int(i128),
     /// A text that the data holds.
     Str(&'a str),
+    /// Texts, in order.
+    List(Items<Text>),
+    /// Numbers, in order.
+    Nums(Items<u64>),
+    /// Services, in order, each as its host's name and its description.
+    Pairs(Items<(Text, Text)>),
+    /// A text of its own.
+    Own(Text),
 }

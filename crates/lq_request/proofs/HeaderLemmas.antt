@@ -1,20 +1,30 @@
--- The columns of header lines, line by line.
-use Rattle.std.proofs.Common.{◌≡◌, ℕ, ◌+◌, Result, Ok, Err, List, ◌∷◌, refl, sym, ap, ◌∙◌, append_assoc}
-use Rattle.lq_records.specs.declared.columns.Col.{Col}
+-- What header lines say, line by line.
+use Rattle.std.proofs.Common.{◌≡◌, ℕ, ◌+◌, Bool, Option, Some, None, Result, Ok, Err, List, ◌∷◌, refl, sym, ap, ◌∙◌, append_assoc}
+use Rattle.std.specs.Option.{option_or}
 use Rattle.lq_records.specs.declared.columns.Table.{Table}
 use Rattle.lq_records.specs.declared.refusal.Refusal.{Refusal}
-use Rattle.lq_request.specs.Request.{header_line, header_lines, with_columns}
+use Rattle.lq_request.specs.Request.{both, header_line, header_lines, with_headers}
+use Rattle.lq_request.specs.declared.header.Headers.{Headers}
 
-with_all : (first second third : Result (List Col) Refusal) → with_columns (with_columns first second) third ≡ with_columns first (with_columns second third)
+last_switch : (first second third : Option Bool) → option_or third (option_or second first) ≡ option_or (option_or third second) first
+last_switch first second None = refl
+last_switch first second (Some names) = refl
+
+all_both : (first second third : Headers) → both (both first second) third ≡ both first (both second third)
+all_both first second third =
+    ap (λ columns. record { columns = columns; names = option_or third.names (option_or second.names first.names) }) (append_assoc first.columns second.columns third.columns)
+    ∙ ap (λ names. record { columns = (both first (both second third)).columns; names = names }) (last_switch first.names second.names third.names)
+
+with_all : (first second third : Result Headers Refusal) → with_headers (with_headers first second) third ≡ with_headers first (with_headers second third)
 with_all (Err fault) second third = refl
-with_all (Ok columns) (Err fault) third = refl
-with_all (Ok columns) (Ok more) (Err fault) = refl
-with_all (Ok columns) (Ok more) (Ok last) = ap Ok (append_assoc columns more last)
+with_all (Ok headers) (Err fault) third = refl
+with_all (Ok headers) (Ok later) (Err fault) = refl
+with_all (Ok headers) (Ok later) (Ok last) = ap Ok (all_both headers later last)
 
--- the columns of a line go behind those before it
-pub found_next : (table : Table) (number : ℕ) (line : List ℕ) (lines : List (List ℕ)) (before columns : List Col)
-    → with_columns (Ok before) (header_line table number line) ≡ Ok columns
-    → with_columns (Ok columns) (header_lines table (number + 1) lines) ≡ with_columns (Ok before) (header_lines table number (line ∷ lines))
-found_next table number line lines before columns is =
-    ap (λ found. with_columns found (header_lines table (number + 1) lines)) (sym is)
+-- what a line says goes behind what those before it say
+pub found_next : (table : Table) (number : ℕ) (line : List ℕ) (lines : List (List ℕ)) (before headers : Headers)
+    → with_headers (Ok before) (header_line table number line) ≡ Ok headers
+    → with_headers (Ok headers) (header_lines table (number + 1) lines) ≡ with_headers (Ok before) (header_lines table number (line ∷ lines))
+found_next table number line lines before headers is =
+    ap (λ found. with_headers found (header_lines table (number + 1) lines)) (sym is)
     ∙ with_all (Ok before) (header_line table number line) (header_lines table (number + 1) lines)

@@ -1,8 +1,9 @@
 -- Fronts and parts of lists.
-use Rattle.std.proofs.Common.{◌≡◌, ℕ, ◌+◌, ◌-◌, ◌≤◌, List, ◌++◌, length, take, drop, sym, ap, ◌∙◌, arith, append-nil}
+use Rattle.std.proofs.Common.{◌≡◌, ℕ, suc, ◌+◌, ◌-◌, ◌≤◌, Some, List, [], ◌∷◌, ◌++◌, slice_get, length, take, drop, sym, ap, ◌∙◌, arith, append-nil}
 use Rattle.std.proofs.lemmas.Bool.{cases_lt}
 use Rattle.std.proofs.lemmas.List.{drop-take, take-append-le}
-use Rattle.std.proofs.Math.Seq.{take-append-add}
+use Rattle.std.proofs.lemmas.Option.{get_or_from_slice_get, slice_get_within}
+use Rattle.std.proofs.Math.Seq.{take-append-add, take-suc}
 use Rattle.std.proofs.Math.Logic.{⊎_elim}
 use Rattle.std.proofs.lemmas.Grind.{common_steps}
 
@@ -28,3 +29,11 @@ front_more n bytes more = ⊎_elim
     ap (λ k. take k (bytes ++ more)) (sym whole) ∙ take-append-add bytes more (n - length bytes)
     ∙ ap (λ front. front ++ take (n - length bytes) more) (sym (take_whole n bytes high)))
     (cases_lt n (length bytes))
+
+-- a front, and the item behind it
+pub front_next : {A : Type 0} (before items : List A) (i : ℕ) (item : A) → slice_get items i ≡ Some item → before ≡ take i items
+    → before ++ item ∷ [] ≡ take (i + 1) items
+front_next before items i item is front =
+    let next : suc i ≡ i + 1 = omega arith in
+    ap (λ found. found ++ item ∷ []) front ∙ ap (λ last. take i items ++ last ∷ []) (sym (get_or_from_slice_get items i item item is))
+    ∙ sym (take-suc items i item (slice_get_within items i item is)) ∙ ap (λ n. take n items) next

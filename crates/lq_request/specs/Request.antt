@@ -1,6 +1,7 @@
 -- What a message asks, or why it is refused.
-use Rattle.std.specs.Prelude.{ℕ, ◌+◌, nat_lt, Bool, true, false, not, Option, Some, None, is_none, Result, Ok, Err, List, [], ◌∷◌, ◌++◌, take, drop, find, bytes_eq, codes, position, if◌then◌else◌}
+use Rattle.std.specs.Prelude.{ℕ, ◌+◌, nat_lt, Bool, true, false, not, Option, Some, None, is_none, unwrap_or, Result, Ok, Err, List, [], ◌∷◌, ◌++◌, take, drop, find, bytes_eq, codes, position, if◌then◌else◌}
 use Rattle.std.specs.List.{filter_map}
+use Rattle.std.specs.Option.{option_or}
 use Rattle.std.specs.Str.{is_utf8}
 use Rattle.lq_text.specs.Lines.{lines_of}
 use Rattle.lq_text.specs.Blanks.{words_of}
@@ -10,6 +11,7 @@ use Rattle.lq_records.specs.declared.columns.Table.{Table}
 use Rattle.lq_records.specs.declared.refusal.Refusal.{Refusal}
 use Rattle.lq_request.specs.declared.request.Request.{Request}
 use Rattle.lq_request.specs.declared.style.Style.{Style}
+use Rattle.lq_request.specs.declared.header.Headers.{Headers}
 use Rattle.lq_request.specs.declared.header.TheConstants.{MOST_HEADERS}
 use Rattle.lq_request.specs.Style.{is_colon, switch_value, style_of}
 
@@ -69,40 +71,57 @@ first_line line = if is_utf8 line then first_words (words_of line) else Err not_
 
 -- ---- a header line
 
+-- headers that name columns
+abbrev pub naming : List Col → Headers
+naming columns = record { columns = columns; names = None }
+
+-- headers that say whether a line of names is written
+abbrev pub switching : Bool → Headers
+switching names = record { columns = []; names = Some names }
+
+abbrev pub no_headers : Headers
+no_headers = naming []
+
 abbrev pub is_unknown : Table → List ℕ → Bool
 is_unknown table word = is_none (column_of table word)
 
-abbrev pub named_columns : Table → List (List ℕ) → Option (List ℕ) → Result (List Col) Refusal
+abbrev pub named_columns : Table → List (List ℕ) → Option (List ℕ) → Result Headers Refusal
 named_columns table words (Some word) = Err (unknown_column word)
-named_columns table words None = Ok (filter_map (column_of table) words)
+named_columns table words None = Ok (naming (filter_map (column_of table) words))
 
 -- the columns that words name; the first word that names none decides
-abbrev pub columns_of_words : Table → List (List ℕ) → Result (List Col) Refusal
+abbrev pub columns_of_words : Table → List (List ℕ) → Result Headers Refusal
 columns_of_words table words = named_columns table words (find (is_unknown table) words)
 
 -- the value of `Columns` has one word at least
-abbrev pub columns_value : Table → List (List ℕ) → Result (List Col) Refusal
+abbrev pub columns_value : Table → List (List ℕ) → Result Headers Refusal
 columns_value table [] = Err (bad_value (codes "Columns"))
 columns_value table (word ∷ words) = columns_of_words table (word ∷ words)
 
--- the value of `KeepAlive` is a switch, and names no columns
-abbrev pub keep_columns : Option Bool → Result (List Col) Refusal
-keep_columns None = Err (bad_value (codes "KeepAlive"))
-keep_columns (Some keep) = Ok []
+-- the value of `ColumnHeaders` is a switch: whether a line of names is written
+abbrev pub names_value : Option Bool → Result Headers Refusal
+names_value None = Err (bad_value (codes "ColumnHeaders"))
+names_value (Some names) = Ok (switching names)
 
-unfoldable pub header : Table → List ℕ → List ℕ → Result (List Col) Refusal
+-- the value of `KeepAlive` is a switch, of which the style speaks
+abbrev pub keep_value : Option Bool → Result Headers Refusal
+keep_value None = Err (bad_value (codes "KeepAlive"))
+keep_value (Some keep) = Ok no_headers
+
+unfoldable pub header : Table → List ℕ → List ℕ → Result Headers Refusal
 header table name value =
     if bytes_eq name (codes "Columns") then columns_value table (words_of value)
-    else if bytes_eq name (codes "KeepAlive") then keep_columns (switch_value value)
+    else if bytes_eq name (codes "ColumnHeaders") then names_value (switch_value value)
+    else if bytes_eq name (codes "KeepAlive") then keep_value (switch_value value)
     else Err (unknown_header name)
 
 -- a name goes up to the first colon, the value follows it
-abbrev pub header_at : Table → List ℕ → Option ℕ → Result (List Col) Refusal
+abbrev pub header_at : Table → List ℕ → Option ℕ → Result Headers Refusal
 header_at table line None = Err no_colon
 header_at table line (Some colon) = header table (take colon line) (drop (colon + 1) line)
 
--- the columns of a header line, by its number from 1; of several faults the first in this order decides
-abbrev pub header_line : Table → ℕ → List ℕ → Result (List Col) Refusal
+-- what a header line says, by its number from 1; of several faults the first in this order decides
+abbrev pub header_line : Table → ℕ → List ℕ → Result Headers Refusal
 header_line table number line =
     if not (is_utf8 line) then Err not_utf8
     else if nat_lt MOST_HEADERS number then Err too_many_headers
@@ -110,28 +129,43 @@ header_line table number line =
 
 -- ---- a message
 
-abbrev pub with_columns : Result (List Col) Refusal → Result (List Col) Refusal → Result (List Col) Refusal
-with_columns (Err fault) later = Err fault
-with_columns (Ok columns) (Err fault) = Err fault
-with_columns (Ok columns) (Ok more) = Ok (columns ++ more)
+-- headers and later ones: the columns of both, and the later switch where there is one
+abbrev pub both : Headers → Headers → Headers
+both headers later = record { columns = headers.columns ++ later.columns; names = option_or later.names headers.names }
 
--- the columns of the header lines from a number on; the first line with a fault decides
-abbrev pub header_lines : Table → ℕ → List (List ℕ) → Result (List Col) Refusal
-header_lines table number [] = Ok []
-header_lines table number (line ∷ lines) = with_columns (header_line table number line) (header_lines table (number + 1) lines)
+abbrev pub with_headers : Result Headers Refusal → Result Headers Refusal → Result Headers Refusal
+with_headers (Err fault) later = Err fault
+with_headers (Ok headers) (Err fault) = Err fault
+with_headers (Ok headers) (Ok later) = Ok (both headers later)
 
--- a request without a `Columns` line asks for all columns, with a line of their names
-abbrev pub request_of : Style → Table → List Col → Request
-request_of style table [] = record { table = table; columns = columns_of table; head = true; fixed16 = style.fixed16; keep = style.keep }
-request_of style table (column ∷ columns) = record { table = table; columns = column ∷ columns; head = false; fixed16 = style.fixed16; keep = style.keep }
+-- what the header lines from a number on say; the first line with a fault decides
+abbrev pub header_lines : Table → ℕ → List (List ℕ) → Result Headers Refusal
+header_lines table number [] = Ok no_headers
+header_lines table number (line ∷ lines) = with_headers (header_line table number line) (header_lines table (number + 1) lines)
 
-abbrev pub asked_columns : Style → Table → Result (List Col) Refusal → Result Request Refusal
-asked_columns style table (Err fault) = Err fault
-asked_columns style table (Ok columns) = Ok (request_of style table columns)
+-- the columns that are named, or all where none is
+abbrev pub chosen_columns : Table → List Col → List Col
+chosen_columns table [] = columns_of table
+chosen_columns table (column ∷ columns) = column ∷ columns
+
+abbrev pub none_named : List Col → Bool
+none_named [] = true
+none_named (column ∷ columns) = false
+
+-- whether a line of names is written: as the switch says; without one, exactly where no columns are named
+abbrev pub has_names : Headers → Bool
+has_names headers = unwrap_or headers.names (none_named headers.columns)
+
+abbrev pub request_of : Style → Table → Headers → Request
+request_of style table headers = record { table = table; columns = chosen_columns table headers.columns; head = has_names headers; fixed16 = style.fixed16; keep = style.keep }
+
+abbrev pub asked_table : Style → Table → Result Headers Refusal → Result Request Refusal
+asked_table style table (Err fault) = Err fault
+asked_table style table (Ok headers) = Ok (request_of style table headers)
 
 abbrev pub asked_headers : Style → List (List ℕ) → Result Table Refusal → Result Request Refusal
 asked_headers style headers (Err fault) = Err fault
-asked_headers style headers (Ok table) = asked_columns style table (header_lines table 1 headers)
+asked_headers style headers (Ok table) = asked_table style table (header_lines table 1 headers)
 
 abbrev pub asked_lines : Style → List (List ℕ) → Result Request Refusal
 asked_lines style [] = Err invalid_request

@@ -4,7 +4,7 @@ ghost use Rattle.std.specs.Str.{IsUtf8, is_utf8};
 ghost use Rattle.lq_text.specs.Lines.{lines_of};
 ghost use Rattle.lq_text.specs.Blanks.{words_of};
 ghost use Rattle.lq_request.specs.Reading.{AddsColumns, Finds};
-ghost use Rattle.lq_request.specs.Request.{columns_value, header, header_at, header_line, header_lines, keep_columns, with_columns};
+ghost use Rattle.lq_request.specs.Request.{columns_value, header, header_at, header_line, header_lines, keep_value, names_value, with_headers};
 ghost use Rattle.lq_request.specs.Style.{is_colon, switch_value};
 
 use crate::fault::{Fault, refused};
@@ -17,30 +17,42 @@ use std::alloc::Global;
 /// The most header lines that a query may have.
 pub const MOST_HEADERS: usize = 256;
 
-/// The columns of all header lines, in order, or the refusal of the first line with a fault.
-pub fn header_lines(alloc: Global, table: Table, headers: &[u8]) -> Result<Items<Col>, Fault>
-    ensures { Finds result (header_lines table 1 (lines_of headers.now)) }
-{
-    let mut columns = Items::new(alloc);
-    let mut number = 0;
-    let mut at = 0;
-    'lines: while let Some((end, next)) = next_line(headers, at) {
-        number += 1;
-        columns = header_line(alloc, table, number, &headers[at..end], columns)?;
-        at = next;
-    }
-    Ok(columns)
+/// What header lines say.
+#[derive(Debug, Drop)]
+pub struct Headers {
+    /// The columns that they name, in order.
+    pub columns: Items<Col>,
+    /// Whether a line of the columns' names comes first, where a line says so.
+    pub names: Option<bool>,
 }
 
-/// The columns so far and those of one more header line.
+/// What all header lines say, or the refusal of the first line with a fault.
+pub fn header_lines(alloc: Global, table: Table, bytes: &[u8]) -> Result<Headers, Fault>
+    ensures { Finds result (header_lines table 1 (lines_of bytes.now)) }
+{
+    let mut headers = Headers {
+        columns: Items::new(alloc),
+        names: None,
+    };
+    let mut number = 0;
+    let mut at = 0;
+    'lines: while let Some((end, next)) = next_line(bytes, at) {
+        number += 1;
+        headers = header_line(alloc, table, number, &bytes[at..end], headers)?;
+        at = next;
+    }
+    Ok(headers)
+}
+
+/// What the headers so far and one more header line say.
 fn header_line(
     alloc: Global,
     table: Table,
     number: usize,
     line: &[u8],
-    columns: Items<Col>,
-) -> Result<Items<Col>, Fault>
-    ensures { Finds result (with_columns (Ok columns) (header_line table number line.now)) }
+    headers: Headers,
+) -> Result<Headers, Fault>
+    ensures { Finds result (with_headers (Ok headers) (header_line table number line.now)) }
 {
     if !is_text(line) {
         return Err(refused(alloc, 400, "not UTF-8", "")?);
@@ -48,70 +60,84 @@ fn header_line(
     if number > MOST_HEADERS {
         return Err(refused(alloc, 400, "too many headers", "")?);
     }
-    header_at(alloc, table, line, columns)
+    header_at(alloc, table, line, headers)
 }
 
-/// The columns so far and those of a header, whose name goes up to its first colon.
-fn header_at(
-    alloc: Global,
-    table: Table,
-    line: &[u8],
-    columns: Items<Col>,
-) -> Result<Items<Col>, Fault>
+/// What the headers so far and one more say, whose name goes up to its first colon.
+fn header_at(alloc: Global, table: Table, line: &[u8], headers: Headers) -> Result<Headers, Fault>
     requires { IsUtf8 line.now }
-    ensures { Finds result (with_columns (Ok columns) (header_at table line.now (position is_colon line.now))) }
+    ensures { Finds result (with_headers (Ok headers) (header_at table line.now (position is_colon line.now))) }
 {
     match colon_place(line) {
-        Some(colon) => header(alloc, table, &line[..colon], &line[colon + 1..], columns),
+        Some(colon) => header(alloc, table, &line[..colon], &line[colon + 1..], headers),
         None => Err(refused(alloc, 400, "line without a colon", "")?),
     }
 }
 
-/// The columns so far and those of a header.
+/// What the headers so far and one more say.
 #[tactic(auto, unfolding(crate::specs::Request::header))]
 fn header(
     alloc: Global,
     table: Table,
     name: &[u8],
     value: &[u8],
-    columns: Items<Col>,
-) -> Result<Items<Col>, Fault>
+    headers: Headers,
+) -> Result<Headers, Fault>
     requires name { IsUtf8 name.now }
     requires value { IsUtf8 value.now }
-    ensures { Finds result (with_columns (Ok columns) (header table name.now value.now)) }
+    ensures { Finds result (with_headers (Ok headers) (header table name.now value.now)) }
 {
     if name == b"Columns".as_slice() {
-        return columns_value(alloc, table, value, columns);
+        return columns_value(alloc, table, value, headers);
+    }
+    if name == b"ColumnHeaders".as_slice() {
+        return names_value(alloc, value, headers);
     }
     if name == b"KeepAlive".as_slice() {
-        return keep_value(alloc, value, columns);
+        return keep_value(alloc, value, headers);
     }
     Err(refused(alloc, 400, "unknown header: ", as_text(name))?)
 }
 
-/// The columns so far and those that the value of `Columns` names.
+/// The headers so far, and the columns that the value of `Columns` names.
 fn columns_value(
     alloc: Global,
     table: Table,
     value: &[u8],
-    columns: Items<Col>,
-) -> Result<Items<Col>, Fault>
+    headers: Headers,
+) -> Result<Headers, Fault>
     requires { IsUtf8 value.now }
-    ensures { Finds result (with_columns (Ok columns) (columns_value table (words_of value.now))) }
+    ensures { Finds result (with_headers (Ok headers) (columns_value table (words_of value.now))) }
 {
     let words = words_of(alloc, value)?;
     if words.is_empty() {
         return Err(refused(alloc, 400, "bad value for ", "Columns")?);
     }
-    add_columns(alloc, table, &words, columns)
+    Ok(Headers {
+        columns: add_columns(alloc, table, &words, headers.columns)?,
+        names: headers.names,
+    })
 }
 
-/// The columns so far, where the value of `KeepAlive` is well formed.
-fn keep_value(alloc: Global, value: &[u8], columns: Items<Col>) -> Result<Items<Col>, Fault>
-    ensures { Finds result (with_columns (Ok columns) (keep_columns (switch_value value.now))) }
+/// The headers so far, and what the value of `ColumnHeaders` says of the line of names.
+fn names_value(alloc: Global, value: &[u8], headers: Headers) -> Result<Headers, Fault>
+    ensures { Finds result (with_headers (Ok headers) (names_value (switch_value value.now))) }
 {
     match switch_value(value) {
-        Some(_) => Ok(columns),
+        Some(names) => Ok(Headers {
+            columns: headers.columns,
+            names: Some(names),
+        }),
+        None => Err(refused(alloc, 400, "bad value for ", "ColumnHeaders")?),
+    }
+}
+
+/// The headers so far, where the value of `KeepAlive` is well formed.
+fn keep_value(alloc: Global, value: &[u8], headers: Headers) -> Result<Headers, Fault>
+    ensures { Finds result (with_headers (Ok headers) (keep_value (switch_value value.now))) }
+{
+    match switch_value(value) {
+        Some(_) => Ok(headers),
         None => Err(refused(alloc, 400, "bad value for ", "KeepAlive")?),
     }
 }

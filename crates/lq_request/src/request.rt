@@ -4,10 +4,10 @@ ghost use Rattle.std.specs.Str.{IsUtf8};
 ghost use Rattle.lq_records.specs.Schema.{columns_of};
 ghost use Rattle.lq_text.specs.Lines.{lines_of};
 ghost use Rattle.lq_request.specs.Reading.{Finds, Reads};
-ghost use Rattle.lq_request.specs.Request.{asked, asked_in, first_line, first_words, known_table, request_of, table_of_words};
+ghost use Rattle.lq_request.specs.Request.{asked, asked_in, chosen_columns, first_line, first_words, known_table, request_of, table_of_words};
 
 use crate::fault::{Fault, refused};
-use crate::header::header_lines;
+use crate::header::{Headers, header_lines};
 use crate::style::{Style, reply_style};
 use crate::words::{as_text, is_text, words_of};
 use lq_records::{Base, Col, Items, Memory, Refusal, Table, column_at, column_count, table};
@@ -21,7 +21,8 @@ pub struct Request {
     pub table: Table,
     /// The columns, in the order of the answer.
     pub columns: Items<Col>,
-    /// Whether a line of the columns' names comes first.
+    /// Whether a line of the columns' names comes first: what the last `ColumnHeaders` line says; without
+    /// one, true exactly where no columns are named.
     pub head: bool,
     /// Whether a line of 16 bytes with the code and the length comes first. It is always false so far.
     pub fixed16: bool,
@@ -48,8 +49,8 @@ pub enum ReadErr {
 /// `GET`; 451 `missing table name`; 404 `unknown table: <word>`; 400 `extra words after the table
 /// name`. Then the first header line with a fault does, and in it the first of these: 400 `not UTF-8`;
 /// `too many headers` in the 257th; `line without a colon`; `unknown header: <name>`; `bad value for
-/// Columns` without a word; 450 `unknown column: <word>`; `bad value for KeepAlive` where it isn't `on`
-/// or `off`. Both have the style that `reply_style` gives.
+/// Columns` without a word; 450 `unknown column: <word>`; `bad value for ColumnHeaders` and `bad value
+/// for KeepAlive` where it isn't `on` or `off`. Both have the style that `reply_style` gives.
 #[tactic(auto, unfolding(crate::specs::Request::asked))]
 pub fn read_request(alloc: Global, b: &[u8], _base: &Base) -> Result<Request, ReadErr>
     ensures { Reads result (asked b.now) }
@@ -75,8 +76,8 @@ fn asked_in(alloc: Global, style: Style, message: &[u8]) -> Result<Request, Faul
         return Err(refused(alloc, 452, "invalid request", "")?);
     };
     let table = first_line(alloc, &message[..end])?;
-    let columns = header_lines(alloc, table, &message[next..])?;
-    Ok(request_of(alloc, style, table, columns)?)
+    let headers = header_lines(alloc, table, &message[next..])?;
+    Ok(request_of(alloc, style, table, headers)?)
 }
 
 /// The table that a message's first line asks.
@@ -114,31 +115,34 @@ fn table_of_words(alloc: Global, words: &[&[u8]]) -> Result<Table, Fault>
     }
 }
 
-/// The request for the columns chosen, or for all where none are.
+/// What the headers ask of a table.
 fn request_of(
     alloc: Global,
     style: Style,
     table: Table,
-    chosen: Items<Col>,
+    headers: Headers,
 ) -> Result<Request, Memory>
-    ensures { IfOk result (λ request. request ≡ request_of style table chosen) }
+    ensures { IfOk result (λ request. request ≡ request_of style table headers) }
 {
-    if !chosen.is_empty() {
-        return Ok(Request {
-            table,
-            columns: chosen,
-            head: false,
-            fixed16: style.fixed16,
-            keep: style.keep,
-        });
-    }
+    let head = headers.names.unwrap_or(headers.columns.is_empty());
+    let columns = chosen_columns(alloc, table, headers.columns)?;
     Ok(Request {
         table,
-        columns: all_columns(alloc, table)?,
-        head: true,
+        columns,
+        head,
         fixed16: style.fixed16,
         keep: style.keep,
     })
+}
+
+/// The columns that are named, or all where none is.
+fn chosen_columns(alloc: Global, table: Table, named: Items<Col>) -> Result<Items<Col>, Memory>
+    ensures { IfOk result (λ columns. columns ≡ chosen_columns table named) }
+{
+    if named.is_empty() {
+        return all_columns(alloc, table);
+    }
+    Ok(named)
 }
 
 fn all_columns(alloc: Global, table: Table) -> Result<Items<Col>, Memory>

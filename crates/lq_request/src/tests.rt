@@ -1,5 +1,8 @@
 use super::*;
-use lq_records::{Base, Col, HostColumn, Items, OwnColumn, Rules, StatusColumn, Table};
+use lq_records::{
+    Base, Col, HostColumn, HostCounter, HostGroupColumn, Items, OwnColumn, Prefix, Rules,
+    SchemaColumn, ServiceColumn, StatusColumn, Table,
+};
 use std::alloc::{AllocError, Global};
 use std::process::Abort;
 use std::test::Fail;
@@ -239,19 +242,53 @@ fn a_command_ends_within_its_limit(rt: HostRuntime) -> Result<(), Fail> {
 }
 
 const NAME: Col = Col {
+    prefix: Prefix::Own,
     own: OwnColumn::Host(HostColumn::Name),
 };
 
 const ALIAS: Col = Col {
+    prefix: Prefix::Own,
     own: OwnColumn::Host(HostColumn::Alias),
 };
 
 const ADDRESS: Col = Col {
+    prefix: Prefix::Own,
     own: OwnColumn::Host(HostColumn::Address),
 };
 
 const STATE: Col = Col {
+    prefix: Prefix::Own,
     own: OwnColumn::Host(HostColumn::Status(StatusColumn::State)),
+};
+
+const DESCRIPTION: Col = Col {
+    prefix: Prefix::Own,
+    own: OwnColumn::Service(ServiceColumn::Description),
+};
+
+const SERVICE_STATE: Col = Col {
+    prefix: Prefix::Own,
+    own: OwnColumn::Service(ServiceColumn::Status(StatusColumn::State)),
+};
+
+const HOST_NAME: Col = Col {
+    prefix: Prefix::Host,
+    own: OwnColumn::Host(HostColumn::Name),
+};
+
+const GROUP_NAME: Col = Col {
+    prefix: Prefix::HostGroup,
+    own: OwnColumn::HostGroup(HostGroupColumn::Name),
+};
+
+const WORST_HOST: Col = Col {
+    prefix: Prefix::Own,
+    own: OwnColumn::HostGroup(HostGroupColumn::Hosts(HostCounter::WorstHostState)),
+};
+
+const COLUMN_TABLE: Col = Col {
+    prefix: Prefix::Own,
+    own: OwnColumn::Schema(SchemaColumn::Table),
 };
 
 fn read(alloc: Global, message: &[u8]) -> Result<Request, ReadErr> {
@@ -269,9 +306,16 @@ fn read(alloc: Global, message: &[u8]) -> Result<Request, ReadErr> {
     read_request(alloc, message, &base)
 }
 
-fn has_columns(read: &Result<Request, ReadErr>, columns: &[Col]) -> bool {
+fn has_columns(read: &Result<Request, ReadErr>, table: Table, columns: &[Col]) -> bool {
     match read {
-        Ok(request) => request.table == Table::Hosts && request.columns.as_slice() == columns,
+        Ok(request) => request.table == table && request.columns.as_slice() == columns,
+        Err(_) => false,
+    }
+}
+
+fn has_all_columns(read: &Result<Request, ReadErr>, table: Table, count: usize) -> bool {
+    match read {
+        Ok(request) => request.table == table && request.columns.len() == count && request.head,
         Err(_) => false,
     }
 }
@@ -294,8 +338,14 @@ fn is_refused(read: &Result<Request, ReadErr>, code: u16, text: &str) -> bool {
 
 #[test]
 fn columns_are_read(rt: HostRuntime) -> Result<(), Fail> {
-    let cases: [(&[u8], &[Col]); 5] = [
+    let cases: [(&[u8], &[Col]); 8] = [
         (b"GET hosts\nColumns: name state", &[NAME, STATE]),
+        (
+            b"GET hosts\nColumns: alias\nColumnHeaders: on\nColumns: address",
+            &[ALIAS, ADDRESS],
+        ),
+        (b"GET hosts\nColumns: state host_name", &[STATE, NAME]),
+        (b"GET hosts\nColumns: host_alias", &[ALIAS]),
         (b"GET hosts\r\nColumns:state\r\n", &[STATE]),
         (
             b"GET hosts\nColumns: state name\nColumns: state\n",
@@ -306,30 +356,105 @@ fn columns_are_read(rt: HostRuntime) -> Result<(), Fail> {
     ];
     for (message, columns) in cases {
         let read = read(rt.alloc(), message);
-        assert!(rt; has_columns(&read, columns), "at {message:?}");
+        assert!(rt; has_columns(&read, Table::Hosts, columns), "at {message:?}");
+    }
+    Ok(())
+}
+
+#[test]
+fn columns_of_other_tables_are_read(rt: HostRuntime) -> Result<(), Fail> {
+    let cases: [(&[u8], Table, &[Col]); 5] = [
+        (
+            b"GET services\nColumns: host_name description state",
+            Table::Services,
+            &[HOST_NAME, DESCRIPTION, SERVICE_STATE],
+        ),
+        (
+            b"GET services\nColumns: service_description",
+            Table::Services,
+            &[DESCRIPTION],
+        ),
+        (
+            b"GET hostgroups\nColumns: hostgroup_worst_host_state",
+            Table::HostGroups,
+            &[WORST_HOST],
+        ),
+        (
+            b"GET servicesbyhostgroup\nColumns: hostgroup_name service_state host_name",
+            Table::ServicesByHostGroup,
+            &[GROUP_NAME, SERVICE_STATE, HOST_NAME],
+        ),
+        (
+            b"GET columns\nColumns: table column_table",
+            Table::Columns,
+            &[COLUMN_TABLE, COLUMN_TABLE],
+        ),
+    ];
+    for (message, table, columns) in cases {
+        let read = read(rt.alloc(), message);
+        assert!(rt; has_columns(&read, table, columns), "at {message:?}");
     }
     Ok(())
 }
 
 #[test]
 fn all_columns_are_read_where_none_is_chosen(rt: HostRuntime) -> Result<(), Fail> {
-    let all = [NAME, ALIAS, ADDRESS, STATE];
-    let cases: [(&[u8], bool); 3] = [
-        (b"GET hosts", true),
-        (b" GET\thosts\r\n", true),
-        (b"GET hosts\nColumns: name alias address state", false),
+    let cases: [(&[u8], Table, usize); 16] = [
+        (b"GET hosts", Table::Hosts, 44),
+        (b" GET\thosts\r\n", Table::Hosts, 44),
+        (b"GET services", Table::Services, 76),
+        (b"GET hostgroups", Table::HostGroups, 19),
+        (b"GET servicegroups", Table::ServiceGroups, 13),
+        (b"GET contacts", Table::Contacts, 6),
+        (b"GET contactgroups", Table::ContactGroups, 3),
+        (b"GET commands", Table::Commands, 2),
+        (b"GET timeperiods", Table::TimePeriods, 2),
+        (b"GET downtimes", Table::Downtimes, 86),
+        (b"GET comments", Table::Comments, 83),
+        (b"GET status", Table::Status, 5),
+        (b"GET columns", Table::Columns, 4),
+        (b"GET hostsbygroup", Table::HostsByGroup, 63),
+        (b"GET servicesbygroup", Table::ServicesByGroup, 89),
+        (b"GET servicesbyhostgroup", Table::ServicesByHostGroup, 95),
     ];
-    for (message, head) in cases {
+    for (message, table, count) in cases {
         let read = read(rt.alloc(), message);
-        assert!(rt; has_columns(&read, &all), "at {message:?}");
-        assert!(rt; has_head(&read, head), "at {message:?}");
+        assert!(rt; has_all_columns(&read, table, count), "at {message:?}");
+    }
+    Ok(())
+}
+
+#[test]
+fn the_line_of_names_is_chosen(rt: HostRuntime) -> Result<(), Fail> {
+    let cases: [(&[u8], bool); 12] = [
+        (b"", true),
+        (b"KeepAlive: on", true),
+        (b"Columns: name", false),
+        (b"ColumnHeaders: on", true),
+        (b"ColumnHeaders: off", false),
+        (b"Columns: name\nColumnHeaders: on", true),
+        (b"ColumnHeaders: on\nColumns: name", true),
+        (b"Columns: name\nColumnHeaders: off", false),
+        (b"Columns: name\nColumnHeaders:\t on \t\r\n", true),
+        (b"ColumnHeaders:off \r\n", false),
+        (b"ColumnHeaders: on\nColumnHeaders: off", false),
+        (
+            b"ColumnHeaders: off\nColumnHeaders: on\nColumns: name",
+            true,
+        ),
+    ];
+    for (headers, head) in cases {
+        let mut message = Vec::from_slice(rt.alloc(), b"GET hosts\n")?;
+        message.extend_from_slice(headers)?;
+        let read = read(rt.alloc(), &message);
+        assert!(rt; has_head(&read, head), "at {headers:?}");
     }
     Ok(())
 }
 
 #[test]
 fn faulty_first_lines_are_refused(rt: HostRuntime) -> Result<(), Fail> {
-    let cases: [(&[u8], u16, &str); 12] = [
+    let cases: [(&[u8], u16, &str); 14] = [
         (b"", 452, "invalid request"),
         (b" \t", 452, "invalid request"),
         (b"FOO", 452, "invalid request"),
@@ -338,6 +463,8 @@ fn faulty_first_lines_are_refused(rt: HostRuntime) -> Result<(), Fail> {
         (b"GET\nColumns: name", 451, "missing table name"),
         (b"GET nothing\nColumns: name", 404, "unknown table: nothing"),
         (b"GET Hosts\nColumns: name", 404, "unknown table: Hosts"),
+        (b"GET log", 404, "unknown table: log"),
+        (b"GET statehist", 404, "unknown table: statehist"),
         (b"GET nothing x", 404, "unknown table: nothing"),
         (b"GET hosts x", 400, "extra words after the table name"),
         (b"FOO \xff", 400, "not UTF-8"),
@@ -352,7 +479,22 @@ fn faulty_first_lines_are_refused(rt: HostRuntime) -> Result<(), Fail> {
 
 #[test]
 fn faulty_headers_are_refused(rt: HostRuntime) -> Result<(), Fail> {
-    let cases: [(&[u8], u16, &str); 20] = [
+    let cases: [(&[u8], u16, &str); 27] = [
+        (b"ColumnHeaders: On", 400, "bad value for ColumnHeaders"),
+        (b"ColumnHeaders:", 400, "bad value for ColumnHeaders"),
+        (b"ColumnHeaders: on off", 400, "bad value for ColumnHeaders"),
+        (
+            b"ColumnHeaders: on\nColumnHeaders: 1\nColumns:",
+            400,
+            "bad value for ColumnHeaders",
+        ),
+        (b"ColumnHeaders : on", 400, "unknown header: ColumnHeaders "),
+        (b"columnheaders: on", 400, "unknown header: columnheaders"),
+        (
+            b"Columns: host_host_name",
+            450,
+            "unknown column: host_host_name",
+        ),
         (b"KeepAlive: On", 400, "bad value for KeepAlive"),
         (b"KeepAlive:", 400, "bad value for KeepAlive"),
         (b"KeepAlive: on off", 400, "bad value for KeepAlive"),
@@ -383,6 +525,30 @@ fn faulty_headers_are_refused(rt: HostRuntime) -> Result<(), Fail> {
         message.extend_from_slice(headers)?;
         let read = read(rt.alloc(), &message);
         assert!(rt; is_refused(&read, code, text), "at {headers:?}");
+    }
+    Ok(())
+}
+
+#[test]
+fn unknown_columns_of_other_tables_are_refused(rt: HostRuntime) -> Result<(), Fail> {
+    let cases: [(&[u8], &str); 4] = [
+        (b"GET services\nColumns: name", "unknown column: name"),
+        (
+            b"GET services\nColumns: host_host_name",
+            "unknown column: host_host_name",
+        ),
+        (
+            b"GET contacts\nColumns: contact_name state no",
+            "unknown column: state",
+        ),
+        (
+            b"GET columns\nColumns: host_name",
+            "unknown column: host_name",
+        ),
+    ];
+    for (message, text) in cases {
+        let read = read(rt.alloc(), message);
+        assert!(rt; is_refused(&read, 450, text), "at {message:?}");
     }
     Ok(())
 }
@@ -435,7 +601,7 @@ fn a_message_has_at_most_256_header_lines(rt: HostRuntime) -> Result<(), Fail> {
         message.extend_from_slice(b"\nColumns: name")?;
         columns.push(NAME)?;
     }
-    assert!(rt; has_columns(&read(alloc, &message), &columns));
+    assert!(rt; has_columns(&read(alloc, &message), Table::Hosts, &columns));
     let mut more = Vec::from_slice(alloc, &message)?;
     more.extend_from_slice(b"\nno colon")?;
     assert!(rt; is_refused(&read(alloc, &more), 400, "too many headers"));

@@ -1,4 +1,3 @@
-pub mod RowLemmas
 pub mod MessageLemmas
 pub mod StreamLemmas
 pub mod DigitLemmas

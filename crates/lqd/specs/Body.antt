@@ -1,21 +1,22 @@
 -- The body of a reply, line by line.
 use Rattle.std.specs.Prelude.{◌≡◌, ℕ, ◌<◌, ◌≤◌, Bool, true, false, Option, Some, None, List, ◌++◌, length, map}
 use Rattle.std.specs.Global.{Vec}
-use Rattle.lq_records.specs.Schema.{own_name}
-use Rattle.lq_records.specs.Value.{Value, Words}
+use Rattle.lq_records.specs.Names.{full_name}
 use Rattle.lq_records.specs.declared.columns.Col.{Col}
-use Rattle.lqd.specs.Answer.{cell_text, own_cell}
+use Rattle.lq_live.specs.State.{State}
+use Rattle.lq_tables.specs.Cells.{cell_of}
+use Rattle.lqd.specs.Csv.{cell_text}
 use Rattle.lqd.specs.declared.answer.Line.{Line}
 use Rattle.lqd.specs.declared.answer.Line.TheVariants as line
 use Rattle.lqd.specs.declared.answer.TheConstants.{REPLY_LIMIT}
 
--- the cell of a line, and all of them
-abbrev pub cell_of : Line → Col → Value
-cell_of line.Names column = Words (own_name column.own)
-cell_of (line.Row host status) column = own_cell column.own host.now status.now
+-- the text of a line's cell, and those of all its cells
+abbrev pub text_of : State → Line → Col → List ℕ
+text_of s line.Names column = full_name column
+text_of s (line.Row row) column = cell_text (cell_of s row column)
 
-abbrev pub cells_of : Line → List Col → List (List ℕ)
-cells_of line columns = map (λ column. cell_text (cell_of line column)) columns
+abbrev pub texts_of : State → Line → List Col → List (List ℕ)
+texts_of s line columns = map (text_of s line) columns
 
 -- a body is there where it isn't too large
 abbrev pub IsBody : Option (Vec ℕ) → List ℕ → Type 0

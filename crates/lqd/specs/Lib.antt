@@ -1,4 +1,5 @@
 pub mod CommandLine
+pub mod Csv
 pub mod Answer
 pub mod Body
 pub mod Replies

@@ -6,6 +6,7 @@
 
 mod answer;
 mod command_line;
+mod csv;
 mod fault;
 mod run;
 mod session;

@@ -100,8 +100,8 @@ fn answers_a_query_on_hosts(rt: HostRuntime) -> Result<(), Fail> {
             b"web1;Web One;10.0.0.1;0\nweb2;Web Two;10.0.0.2;0\n",
         ),
         (
-            b"GET hosts\n\n",
-            b"name;alias;address;state\nweb1;Web One;10.0.0.1;0\nweb2;Web Two;10.0.0.2;0\n",
+            b"GET hosts\nColumns: name state\nColumnHeaders: on\n\n",
+            b"name;state\nweb1;0\nweb2;0\n",
         ),
         (b"GET hosts\nColumns: name state\n\n", b"web1;0\nweb2;0\n"),
         (
@@ -123,6 +123,187 @@ fn answers_a_query_on_hosts(rt: HostRuntime) -> Result<(), Fail> {
     ];
     for (input, output) in cases {
         assert_run(&rt, &["ask", "f"], &STEADY, input, (0, output, b""))?;
+    }
+    Ok(())
+}
+
+/// Two hosts, three services, two groups of hosts and one of services.
+const SERVICES: &[u8] = b"define timeperiod {
+ timeperiod_name always
+ alias Always
+ }
+define contact {
+ contact_name anna
+ alias Anna
+ }
+define contact {
+ contact_name bert
+ alias Bert
+ }
+define contactgroup {
+ contactgroup_name ops
+ members anna
+ }
+define host {
+ host_name web1
+ alias Web One
+ address 10.0.0.1
+ contacts anna
+ notification_period always
+ }
+define host {
+ host_name web2
+ alias Web Two
+ address 10.0.0.2
+ contacts bert
+ }
+define service {
+ host_name web1
+ service_description http
+ max_check_attempts 3
+ contact_groups ops
+ }
+define service {
+ host_name web1
+ service_description disk
+ contacts bert
+ }
+define service {
+ host_name web2
+ service_description ping
+ contacts bert
+ }
+define hostgroup {
+ hostgroup_name web
+ members web1,web2
+ }
+define hostgroup {
+ hostgroup_name empty
+ }
+define servicegroup {
+ servicegroup_name sg
+ members web1,http,web2,ping
+ }
+";
+
+/// Queries over all kinds of objects, and the replies.
+const TABLES: &[(&[u8], &[u8])] = &[
+    (
+        b"GET services\nColumns: host_name description state\n\n",
+        b"web1;http;0\nweb1;disk;0\nweb2;ping;0\n",
+    ),
+    (
+        b"GET hostgroups\nColumns: name members num_services\n\n",
+        b"web;web1,web2;3\nempty;;0\n",
+    ),
+    (
+        b"GET hostsbygroup\nColumns: hostgroup_name name\n\n",
+        b"web;web1\nweb;web2\n",
+    ),
+    (b"GET commands\n\n", b"name;line\n"),
+    (b"GET commands\nColumnHeaders: off\n\n", b""),
+    (
+        b"GET servicegroups\nColumns: name members num_services_pending\n\n",
+        b"sg;web1|http,web2|ping;2\n",
+    ),
+    (
+        b"GET contacts\nColumns: name alias email\n\n",
+        b"anna;Anna;\nbert;Bert;\n",
+    ),
+    (
+        b"GET contactgroups\n\n",
+        b"name;alias;members\nops;ops;anna\n",
+    ),
+    (b"GET timeperiods\n\n", b"name;alias\nalways;Always\n"),
+    (
+        b"GET status\n\n",
+        b"program_version;enable_notifications;num_hosts;num_services;present_second\nlqd 1;1;2;3;0\n",
+    ),
+    (
+        b"GET servicesbygroup\nColumns: servicegroup_name host_name description\n\n",
+        b"sg;web1;http\nsg;web2;ping\n",
+    ),
+    (
+        b"GET servicesbyhostgroup\nColumns: hostgroup_name host_name service_description\nColumnHeaders: on\n\n",
+        b"hostgroup_name;host_name;description\nweb;web1;http\nweb;web1;disk\nweb;web2;ping\n",
+    ),
+    (
+        b"GET services\nColumns: description contacts host_contacts max_check_attempts\n\n",
+        b"http;anna;anna;3\ndisk;bert;anna;1\nping;bert;bert;1\n",
+    ),
+    (b"GET log\n\n", b""),
+    (b"GET services\nColumns: name\n\n", b""),
+    (b"GET services\nColumnHeaders: yes\n\n", b""),
+];
+
+/// Commands and then queries, and the replies.
+const CHANGED: &[(&[u8], &[u8])] = &[
+    (
+        b"COMMAND [100] PROCESS_SERVICE_CHECK_RESULT;web1;http;2;bad|x=1
+GET services\nColumns: state state_type current_attempt plugin_output perf_data\nKeepAlive: on\n
+COMMAND [101] PROCESS_SERVICE_CHECK_RESULT;web1;http;2;bad|x=1
+COMMAND [102] PROCESS_SERVICE_CHECK_RESULT;web1;http;2;bad|x=1
+GET services\nColumns: state state_type current_attempt plugin_output perf_data\nKeepAlive: on\n
+COMMAND [103] PROCESS_SERVICE_CHECK_RESULT;web1;http;0;fine
+GET services\nColumns: state state_type current_attempt plugin_output perf_data\n\n",
+        b"2;0;1;bad;x=1\n0;1;1;;\n0;1;1;;\n2;1;3;bad;x=1\n0;1;1;;\n0;1;1;;\n0;1;1;fine;\n0;1;1;;\n0;1;1;;\n",
+    ),
+    (
+        b"COMMAND [150] SCHEDULE_HOST_DOWNTIME;web1;200;300;1;0;100;anna;work
+COMMAND [199] ENABLE_NOTIFICATIONS
+GET hosts\nColumns: scheduled_downtime_depth downtimes\nKeepAlive: on\n
+COMMAND [200] ENABLE_NOTIFICATIONS
+GET hosts\nColumns: scheduled_downtime_depth downtimes\nKeepAlive: on\n
+GET downtimes\nColumns: id author comment entry_time start_time end_time fixed duration triggered_by is_service host_name service_description\nKeepAlive: on\n
+COMMAND [300] ENABLE_NOTIFICATIONS
+COMMAND [301] DEL_HOST_DOWNTIME;1
+GET hosts\nColumns: scheduled_downtime_depth downtimes\n\n",
+        b"0;1\n0;\n1;1\n0;\n1;anna;work;150;200;300;1;100;0;0;web1;\n0;\n0;\n",
+    ),
+    (
+        b"COMMAND [100] ADD_HOST_COMMENT;web1;1;anna;say it
+COMMAND [101] ADD_SVC_COMMENT;web2;ping;0;bert;late
+GET comments\nColumns: id author comment entry_time entry_type persistent is_service host_alias service_description\nKeepAlive: on\n
+GET services\nColumns: description comments\n\n",
+        b"1;anna;say it;100;1;1;0;Web One;\n2;bert;late;101;1;0;1;Web Two;ping\nhttp;\ndisk;\nping;2\n",
+    ),
+    (
+        b"COMMAND [100] PROCESS_SERVICE_CHECK_RESULT;web1;disk;3;x
+COMMAND [101] PROCESS_SERVICE_CHECK_RESULT;web2;ping;2;x
+GET hostgroups\nColumns: name num_services num_services_ok num_services_crit num_services_unknown num_services_pending worst_service_state num_hosts_pending worst_host_state\n\n",
+        b"web;3;0;1;1;1;2;2;0\nempty;0;0;0;0;0;0;0;0\n",
+    ),
+];
+
+const WITH_SERVICES: Outside<'static> = Outside {
+    file: SERVICES,
+    ..STEADY
+};
+
+#[test]
+fn each_table_is_answered(rt: HostRuntime) -> Result<(), Fail> {
+    for (input, output) in TABLES {
+        assert_run(
+            &rt,
+            &["ask", "f"],
+            &WITH_SERVICES,
+            *input,
+            (0, *output, b""),
+        )?;
+    }
+    Ok(())
+}
+
+#[test]
+fn commands_change_each_table(rt: HostRuntime) -> Result<(), Fail> {
+    for (input, output) in CHANGED {
+        assert_run(
+            &rt,
+            &["ask", "f"],
+            &WITH_SERVICES,
+            *input,
+            (0, *output, b""),
+        )?;
     }
     Ok(())
 }

@@ -1,6 +1,16 @@
 use super::{assert_faults, assert_texts, base_in, item, joined};
 use crate::ObjectsWhat;
+use std::process::Abort;
 use std::test::Fail;
+
+fn assert_one_host<R: Abort + AllocGlobal>(rt: &R, file: &[u8]) -> Result<(), Fail> {
+    let base = base_in(rt.alloc(), file)?;
+    assert_eq!(rt; base.hosts.len(), 1, "at {file:?}");
+    let host = item(&base.hosts, 0)?;
+    assert_eq!(rt; host.host_name.as_str(), "a", "at {file:?}");
+    assert_eq!(rt; host.alias.as_str(), "A b", "at {file:?}");
+    Ok(())
+}
 
 #[test]
 fn lines_may_be_written_in_other_ways(rt: HostRuntime) -> Result<(), Fail> {
@@ -18,12 +28,19 @@ fn lines_may_be_written_in_other_ways(rt: HostRuntime) -> Result<(), Fail> {
         b"define host {\nhost_name a\nalias A b\n}\n#\r",
     ];
     for file in files {
-        let base = base_in(rt.alloc(), file)?;
-        assert_eq!(rt; base.hosts.len(), 1, "at {file:?}");
-        let host = item(&base.hosts, 0)?;
-        assert_eq!(rt; host.host_name.as_str(), "a", "at {file:?}");
-        assert_eq!(rt; host.alias.as_str(), "A b", "at {file:?}");
+        assert_one_host(&rt, file)?;
     }
+    Ok(())
+}
+
+fn assert_alias<R: Abort + AllocGlobal>(rt: &R, line: &[u8], expected: &str) -> Result<(), Fail> {
+    let file = joined(
+        rt.alloc(),
+        &[b"define host {\nhost_name a\n", line, b"\n}\n"],
+    )?;
+    let base = base_in(rt.alloc(), &file)?;
+    let host = item(&base.hosts, 0)?;
+    assert_eq!(rt; host.alias.as_str(), expected, "at {line:?}");
     Ok(())
 }
 
@@ -41,14 +58,40 @@ fn other_bytes_stay_in_a_value(rt: HostRuntime) -> Result<(), Fail> {
         (b"alias a\0\x0bb\x0c", "a\0\u{b}b\u{c}"),
     ];
     for (line, expected) in cases {
-        let file = joined(
-            rt.alloc(),
-            &[b"define host {\nhost_name a\n", line, b"\n}\n"],
-        )?;
-        let base = base_in(rt.alloc(), &file)?;
-        let host = item(&base.hosts, 0)?;
-        assert_eq!(rt; host.alias.as_str(), expected, "at {line:?}");
+        assert_alias(&rt, line, expected)?;
     }
+    Ok(())
+}
+
+fn assert_replaced<R: Abort + AllocGlobal>(
+    rt: &R,
+    value: &[u8],
+    expected: &str,
+) -> Result<(), Fail> {
+    let file = joined(
+        rt.alloc(),
+        &[
+            b"define host {\nhost_name a",
+            value,
+            b"\nalias ",
+            value,
+            b"\n_V ",
+            value,
+            b"\n}\ndefine hostgroup {\nhostgroup_name g\nmembers a",
+            value,
+            b"\n}\n",
+        ],
+    )?;
+    let base = base_in(rt.alloc(), &file)?;
+    let host = item(&base.hosts, 0)?;
+    assert_texts(rt, &[(&host.alias, expected)]);
+    assert!(rt;
+        host.host_name.as_str().strip_prefix("a") == Some(expected),
+        "at {value:?}"
+    );
+    let (_, value) = item(&host.fields.custom_variables, 0)?;
+    assert_texts(rt, &[(value, expected)]);
+    assert_eq!(rt; item(&base.host_groups, 0)?.members.len(), 1);
     Ok(())
 }
 
@@ -66,30 +109,7 @@ fn each_byte_at_which_no_character_begins_is_replaced(rt: HostRuntime) -> Result
         (b"\xc3\xc3\xa4", "\u{FFFD}ä"),
     ];
     for (value, expected) in cases {
-        let file = joined(
-            rt.alloc(),
-            &[
-                b"define host {\nhost_name a",
-                value,
-                b"\nalias ",
-                value,
-                b"\n_V ",
-                value,
-                b"\n}\ndefine hostgroup {\nhostgroup_name g\nmembers a",
-                value,
-                b"\n}\n",
-            ],
-        )?;
-        let base = base_in(rt.alloc(), &file)?;
-        let host = item(&base.hosts, 0)?;
-        assert_texts(&rt, &[(&host.alias, expected)]);
-        assert!(rt;
-            host.host_name.as_str().strip_prefix("a") == Some(expected),
-            "at {value:?}"
-        );
-        let (_, value) = item(&host.fields.custom_variables, 0)?;
-        assert_texts(&rt, &[(value, expected)]);
-        assert_eq!(rt; item(&base.host_groups, 0)?.members.len(), 1);
+        assert_replaced(&rt, value, expected)?;
     }
     Ok(())
 }

@@ -1,8 +1,8 @@
 use Rattle.std.proofs.Common.{◌≡◌, ◌++◌, ◌∷◌, [], drop}
 use Rattle.std.specs.List.{flat_map}
-use Rattle.lqd.specs.Answer.{csv_line}
-use Rattle.lqd.specs.Body.{cells_of}
+use Rattle.lqd.specs.Body.{texts_of}
+use Rattle.lqd.specs.Csv.{csv_line}
 use Rattle.lqd.proofs.answer.push_line.Given as goal
 
 abbrev pub invariant-loop-column : goal.invariant-loop-column
-invariant-loop-column l = l.body.items ++ (flat_map (λ later. 59 ∷ later) (cells_of l.line (drop l.column-index l.later)) ++ 10 ∷ []) ≡ l.fn.body.items ++ csv_line (cells_of l.line l.columns)
+invariant-loop-column l = l.body.items ++ (flat_map (λ later. 59 ∷ later) (texts_of l.live.state l.line (drop l.column-index l.later)) ++ 10 ∷ []) ≡ l.fn.body.items ++ csv_line (texts_of l.live.state l.line l.request.columns)

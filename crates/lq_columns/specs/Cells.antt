@@ -1,0 +1,155 @@
+-- The value that each column has of a host and of a service.
+use Rattle.std.specs.Prelude.{ℕ, ℤ, pos, ◌==◌, ◌&&◌, Option, Some, None, List, length, map, filter, if◌then◌else◌}
+use Rattle.std.specs.List.{slice_get}
+use Rattle.std.specs.Ordering.{int_eq}
+use Rattle.lq_records.specs.declared.base.Base.{Base}
+use Rattle.lq_records.specs.declared.base.ObjectFields.{ObjectFields}
+use Rattle.lq_records.specs.declared.base.Host.{Host}
+use Rattle.lq_records.specs.declared.base.Service.{Service}
+use Rattle.lq_records.specs.declared.ids.HostId.{HostId}
+use Rattle.lq_records.specs.declared.ids.ServiceId.{ServiceId}
+use Rattle.lq_records.specs.declared.ids.HostGroupId.{HostGroupId}
+use Rattle.lq_records.specs.declared.status.Status.{Status}
+use Rattle.lq_records.specs.declared.status.Object.{Object}
+use Rattle.lq_records.specs.declared.status.Object.TheVariants as object
+use Rattle.lq_records.specs.declared.columns.ObjectColumn.{ObjectColumn}
+use Rattle.lq_records.specs.declared.columns.ObjectColumn.TheVariants as object_column
+use Rattle.lq_records.specs.declared.columns.StatusColumn.{StatusColumn}
+use Rattle.lq_records.specs.declared.columns.StatusColumn.TheVariants as status_column
+use Rattle.lq_records.specs.declared.columns.ServiceCounter.{ServiceCounter}
+use Rattle.lq_records.specs.declared.columns.ServiceCounter.TheVariants as service_counter
+use Rattle.lq_records.specs.declared.columns.HostCounter.{HostCounter}
+use Rattle.lq_records.specs.declared.columns.HostCounter.TheVariants as host_counter
+use Rattle.lq_records.specs.declared.columns.HostColumn.{HostColumn}
+use Rattle.lq_records.specs.declared.columns.HostColumn.TheVariants as host_column
+use Rattle.lq_records.specs.declared.columns.ServiceColumn.{ServiceColumn}
+use Rattle.lq_records.specs.declared.columns.ServiceColumn.TheVariants as service_column
+use Rattle.lq_records.specs.declared.columns.OwnColumn.{OwnColumn}
+use Rattle.lq_records.specs.declared.columns.OwnColumn.TheVariants as own
+use Rattle.lq_records.specs.Value.{Value, Number, Words, Texts, Numbers, empty_value}
+use Rattle.lq_records.specs.Kinds.{host_kind, own_kind, service_kind}
+use Rattle.lq_live.specs.State.{State, is_same_object}
+use Rattle.lq_columns.specs.Names.{child_names_of, contact_group_names_of, contact_names_of, contacts_of, descriptions_of, group_names_of, host_names_of, variable_names_of, variable_values_of}
+use Rattle.lq_columns.specs.Counts.{hosts_counted, services_counted, worst_host, worst_service}
+use Rattle.lq_columns.specs.declared.scope.Scope.{Scope}
+use Rattle.lq_columns.specs.declared.scope.Scope.TheVariants as scope
+use Rattle.lq_columns.specs.declared.counted.Counted.TheVariants as counted
+
+abbrev pub count : ℕ → Value
+count number = Number (pos number)
+
+-- ---- what the object file says of a host or a service
+
+abbrev pub object_cell : Base → Object → ObjectFields → ObjectColumn → Value
+object_cell base about fields object_column.DisplayName = Words fields.display_name
+object_cell base about fields object_column.CheckCommand = Words fields.check_command
+object_cell base about fields object_column.CheckPeriod = Words fields.check_period
+object_cell base about fields object_column.NotificationPeriod = Words fields.notification_period
+object_cell base about fields object_column.MaxCheckAttempts = count fields.max_check_attempts
+object_cell base about fields object_column.Notes = Words fields.notes
+object_cell base about fields object_column.NotesUrl = Words fields.notes_url
+object_cell base about fields object_column.ActionUrl = Words fields.action_url
+object_cell base about fields object_column.IconImage = Words fields.icon_image
+object_cell base about fields object_column.Contacts = Texts (contact_names_of base (contacts_of base fields))
+object_cell base about fields object_column.ContactGroups = Texts (contact_group_names_of base fields.contact_groups)
+object_cell base about fields object_column.Groups = Texts (group_names_of base about)
+object_cell base about fields object_column.CustomVariableNames = Texts (variable_names_of fields)
+object_cell base about fields object_column.CustomVariableValues = Texts (variable_values_of fields)
+
+-- ---- the status of a host or a service
+
+-- the state where it is hard, else the last one that was; being well is hard at once
+abbrev pub hard_state : Status → ℤ
+hard_state status =
+    if int_eq status.state (pos 0) then pos 0 else if status.state_type == 1 then status.state else status.last_hard_state
+
+-- how many downtimes of the object hold
+abbrev pub depth_of : State → Object → ℕ
+depth_of s about = length (filter (λ downtime. downtime.active && is_same_object downtime.object about) s.downtimes)
+
+-- the ids of the object's downtimes, whether they hold or not
+abbrev pub downtime_ids_of : State → Object → List ℕ
+downtime_ids_of s about = map (λ downtime. downtime.id) (filter (λ downtime. is_same_object downtime.object about) s.downtimes)
+
+abbrev pub comment_ids_of : State → Object → List ℕ
+comment_ids_of s about = map (λ comment. comment.id) (filter (λ comment. is_same_object comment.object about) s.comments)
+
+abbrev pub status_cell : State → Object → Status → StatusColumn → Value
+status_cell s about status status_column.State = Number status.state
+status_cell s about status status_column.StateType = count status.state_type
+status_cell s about status status_column.HardState = Number (hard_state status)
+status_cell s about status status_column.LastHardState = Number status.last_hard_state
+status_cell s about status status_column.HasBeenChecked = count status.has_been_checked
+status_cell s about status status_column.CurrentAttempt = count status.current_attempt
+status_cell s about status status_column.LastCheck = count status.last_check
+status_cell s about status status_column.LastStateChange = count status.last_state_change
+status_cell s about status status_column.LastHardStateChange = count status.last_hard_state_change
+status_cell s about status status_column.PluginOutput = Words status.plugin_output
+status_cell s about status status_column.PerfData = Words status.perf_data
+status_cell s about status status_column.Acknowledged = count status.acknowledged
+status_cell s about status status_column.AcknowledgementType = count status.acknowledgement_type
+status_cell s about status status_column.ScheduledDowntimeDepth = count (depth_of s about)
+status_cell s about status status_column.NotificationsEnabled = count status.notifications_enabled
+status_cell s about status status_column.Comments = Numbers (comment_ids_of s about)
+status_cell s about status status_column.Downtimes = Numbers (downtime_ids_of s about)
+
+-- ---- counters
+
+-- of the services of a host, of the services of the hosts that a group lists, or of the services that a group lists
+abbrev pub services_cell : State → Scope → ServiceCounter → Value
+services_cell s scope service_counter.NumServices = count (services_counted s scope counted.All)
+services_cell s scope service_counter.NumServicesOk = count (services_counted s scope (counted.In (pos 0)))
+services_cell s scope service_counter.NumServicesWarn = count (services_counted s scope (counted.In (pos 1)))
+services_cell s scope service_counter.NumServicesCrit = count (services_counted s scope (counted.In (pos 2)))
+services_cell s scope service_counter.NumServicesUnknown = count (services_counted s scope (counted.In (pos 3)))
+services_cell s scope service_counter.NumServicesPending = count (services_counted s scope counted.Pending)
+services_cell s scope service_counter.WorstServiceState = count (worst_service s scope)
+
+-- of the hosts that a group lists
+abbrev pub hosts_cell : State → HostGroupId → HostCounter → Value
+hosts_cell s group host_counter.NumHosts = count (hosts_counted s group counted.All)
+hosts_cell s group host_counter.NumHostsUp = count (hosts_counted s group (counted.In (pos 0)))
+hosts_cell s group host_counter.NumHostsDown = count (hosts_counted s group (counted.In (pos 1)))
+hosts_cell s group host_counter.NumHostsUnreach = count (hosts_counted s group (counted.In (pos 2)))
+hosts_cell s group host_counter.NumHostsPending = count (hosts_counted s group counted.Pending)
+hosts_cell s group host_counter.WorstHostState = count (worst_host s group)
+
+-- ---- hosts
+
+abbrev pub host_cell : State → HostId → Host → Status → HostColumn → Value
+host_cell s id host status host_column.Name = Words host.host_name
+host_cell s id host status host_column.Alias = Words host.alias
+host_cell s id host status host_column.Address = Words host.address
+host_cell s id host status (host_column.Object column) = object_cell s.base (object.Host id) host.fields column
+host_cell s id host status host_column.Parents = Texts (host_names_of s.base host.parents)
+host_cell s id host status host_column.Childs = Texts (child_names_of s.base id)
+host_cell s id host status host_column.Services = Texts (descriptions_of s.base id)
+host_cell s id host status (host_column.Status column) = status_cell s (object.Host id) status column
+host_cell s id host status (host_column.Counter column) = services_cell s (scope.Host id) column
+
+abbrev pub host_at : State → HostId → Option Host → Option Status → HostColumn → Value
+host_at s id (Some host) (Some status) column = host_cell s id host status column
+host_at s id (Some host) None column = empty_value (host_kind column)
+host_at s id None status column = empty_value (host_kind column)
+
+-- the value of a column of a host; the empty value where the base has no such host, or the column is of something else
+abbrev pub of_host : State → HostId → OwnColumn → Value
+of_host s id (own.Host column) = host_at s id (slice_get s.base.hosts id.0) (slice_get s.host_status id.0) column
+of_host s id column = empty_value (own_kind column)
+
+-- ---- services
+
+abbrev pub service_cell : State → ServiceId → Service → Status → ServiceColumn → Value
+service_cell s id service status service_column.Description = Words service.service_description
+service_cell s id service status (service_column.Object column) = object_cell s.base (object.Service id) service.fields column
+service_cell s id service status (service_column.Status column) = status_cell s (object.Service id) status column
+
+abbrev pub service_at : State → ServiceId → Option Service → Option Status → ServiceColumn → Value
+service_at s id (Some service) (Some status) column = service_cell s id service status column
+service_at s id (Some service) None column = empty_value (service_kind column)
+service_at s id None status column = empty_value (service_kind column)
+
+-- the value of a column of a service; the empty value where the base has no such service, or the column is of something else
+abbrev pub of_service : State → ServiceId → OwnColumn → Value
+of_service s id (own.Service column) = service_at s id (slice_get s.base.services id.0) (slice_get s.service_status id.0) column
+of_service s id column = empty_value (own_kind column)

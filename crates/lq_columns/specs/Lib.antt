@@ -1,0 +1,5 @@
+pub mod Cells
+pub mod Counts
+pub mod Distinct
+pub mod Names
+pub mod Plain

@@ -1,0 +1,71 @@
+ghost use Rattle.std.specs.Prelude.{◌≡◌, ◌++◌, [], IfOk, OnOk, flat_map};
+ghost use Rattle.lq_columns.specs.Distinct.{stands_in, with_new, with_one};
+ghost use Rattle.lq_columns.specs.Names.{contacts_of, members_of};
+
+use lq_records::{Base, ContactGroupId, ContactId, Memory, ObjectFields};
+use std::alloc::Global;
+
+/// The contacts at an object itself, then those of its contact groups, repeats dropped.
+#[tactic(auto, using(crate::proofs::Distinct::contacts_found))]
+pub(crate) fn contacts_of(
+    alloc: Global,
+    base: &Base,
+    fields: &ObjectFields,
+) -> Result<Vec<ContactId>, Memory>
+    ensures { IfOk result (λ found. found.items ≡ contacts_of base.now fields.now) }
+{
+    let mut found = Vec::new(alloc);
+    add_new(&mut found, fields.contacts.as_slice())?;
+    add_members(&mut found, base, fields.contact_groups.as_slice())?;
+    Ok(found)
+}
+
+/// Adds the members of contact groups, as far as they aren't there.
+fn add_members(
+    found: &mut Vec<ContactId>,
+    base: &Base,
+    groups: &[ContactGroupId],
+) -> Result<(), Memory>
+    ensures { OnOk result (found.new.items ≡ with_new found.old.items (flat_map (members_of base.now) groups.now)) }
+{
+    for group in groups {
+        add_new(found, members_of(base, *group))?;
+    }
+    Ok(())
+}
+
+fn members_of(base: &Base, group: ContactGroupId) -> &[ContactId]
+    ensures { result.now ≡ members_of base.now group }
+{
+    match base.contact_groups.as_slice().get(group.0 as usize) {
+        Some(group) => group.members.as_slice(),
+        None => &[],
+    }
+}
+
+/// Adds contacts, as far as they aren't there.
+fn add_new(found: &mut Vec<ContactId>, ids: &[ContactId]) -> Result<(), Memory>
+    ensures { OnOk result (found.new.items ≡ with_new found.old.items ids.now) }
+{
+    for id in ids {
+        push_new(found, *id)?;
+    }
+    Ok(())
+}
+
+/// Adds a contact, unless it is there.
+fn push_new(found: &mut Vec<ContactId>, id: ContactId) -> Result<(), Memory>
+    ensures { OnOk result (found.new.items ≡ with_one found.old.items id) }
+{
+    if stands_in(found, id) {
+        return Ok(());
+    }
+    found.push(id)?;
+    Ok(())
+}
+
+fn stands_in(found: &[ContactId], id: ContactId) -> bool
+    ensures { result ≡ stands_in found.now id }
+{
+    found.iter().any(|other| other.0 == id.0)
+}

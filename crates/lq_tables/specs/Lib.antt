@@ -1,0 +1,6 @@
+pub mod Schema
+pub mod Rows
+pub mod About
+pub mod Parts
+pub mod Light
+pub mod Cells

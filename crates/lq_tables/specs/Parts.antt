@@ -1,0 +1,127 @@
+-- The values of the columns on contacts, commands, time periods, downtimes, comments, the program and the schema.
+use Rattle.std.specs.Prelude.{ℕ, pos, Bool, Option, Some, None, List, length, codes, if◌then◌else◌}
+use Rattle.std.specs.List.{slice_get}
+use Rattle.std.specs.Option.{option_map, option_and_then}
+use Rattle.lq_records.specs.declared.base.Base.{Base}
+use Rattle.lq_records.specs.declared.base.Command.{Command}
+use Rattle.lq_records.specs.declared.base.Contact.{Contact}
+use Rattle.lq_records.specs.declared.base.Period.{Period}
+use Rattle.lq_records.specs.declared.base.Service.{Service}
+use Rattle.lq_records.specs.declared.columns.ColKind.{ColKind}
+use Rattle.lq_records.specs.declared.columns.ColKind.TheVariants as kind
+use Rattle.lq_records.specs.declared.columns.CommandColumn.{CommandColumn}
+use Rattle.lq_records.specs.declared.columns.CommandColumn.TheVariants as command
+use Rattle.lq_records.specs.declared.columns.CommentColumn.{CommentColumn}
+use Rattle.lq_records.specs.declared.columns.CommentColumn.TheVariants as comment
+use Rattle.lq_records.specs.declared.columns.ContactColumn.{ContactColumn}
+use Rattle.lq_records.specs.declared.columns.ContactColumn.TheVariants as contact
+use Rattle.lq_records.specs.declared.columns.DowntimeColumn.{DowntimeColumn}
+use Rattle.lq_records.specs.declared.columns.DowntimeColumn.TheVariants as downtime
+use Rattle.lq_records.specs.declared.columns.PeriodColumn.{PeriodColumn}
+use Rattle.lq_records.specs.declared.columns.PeriodColumn.TheVariants as period
+use Rattle.lq_records.specs.declared.columns.ProgramColumn.{ProgramColumn}
+use Rattle.lq_records.specs.declared.columns.ProgramColumn.TheVariants as program
+use Rattle.lq_records.specs.declared.columns.SchemaColumn.{SchemaColumn}
+use Rattle.lq_records.specs.declared.columns.SchemaColumn.TheVariants as schema
+use Rattle.lq_records.specs.declared.ids.ServiceId.{ServiceId}
+use Rattle.lq_records.specs.declared.status.Comment.{Comment}
+use Rattle.lq_records.specs.declared.status.Downtime.{Downtime}
+use Rattle.lq_records.specs.Kinds.{command_kind, comment_kind, contact_kind, downtime_kind, own_kind, period_kind, program_kind, schema_kind}
+use Rattle.lq_records.specs.Names.{full_name, table_name}
+use Rattle.lq_records.specs.Value.{Value, Number, Words, empty_value}
+use Rattle.lq_live.specs.State.{State, is_service}
+use Rattle.lq_tables.specs.declared.row.Row.{Row}
+use Rattle.lq_tables.specs.declared.row.Row.TheVariants as row
+use Rattle.lq_tables.specs.declared.schema.Entry.{Entry}
+
+-- 1 where something holds, else 0
+abbrev pub flag : Bool → Value
+flag holds = Number (pos (if holds then 1 else 0))
+
+abbrev pub count : ℕ → Value
+count number = Number (pos number)
+
+-- ---- contacts, commands and time periods
+
+abbrev pub contact_cell : Option Contact → ContactColumn → Value
+contact_cell None column = empty_value (contact_kind column)
+contact_cell (Some item) contact.Name = Words item.contact_name
+contact_cell (Some item) contact.Alias = Words item.alias
+contact_cell (Some item) contact.Email = Words item.email
+contact_cell (Some item) contact.Pager = Words item.pager
+contact_cell (Some item) contact.HostNotificationPeriod = Words item.host_notification_period
+contact_cell (Some item) contact.ServiceNotificationPeriod = Words item.service_notification_period
+
+abbrev pub command_cell : Option Command → CommandColumn → Value
+command_cell None column = empty_value (command_kind column)
+command_cell (Some item) command.Name = Words item.command_name
+command_cell (Some item) command.Line = Words item.command_line
+
+abbrev pub period_cell : Option Period → PeriodColumn → Value
+period_cell None column = empty_value (period_kind column)
+period_cell (Some item) period.Name = Words item.timeperiod_name
+period_cell (Some item) period.Alias = Words item.alias
+
+-- ---- downtimes and comments
+
+-- each downtime is fixed, and none is triggered by another
+abbrev pub downtime_cell : Option Downtime → DowntimeColumn → Value
+downtime_cell None column = empty_value (downtime_kind column)
+downtime_cell (Some item) downtime.Id = count item.id
+downtime_cell (Some item) downtime.Author = Words item.author
+downtime_cell (Some item) downtime.Comment = Words item.comment
+downtime_cell (Some item) downtime.EntryTime = count item.entry_time
+downtime_cell (Some item) downtime.StartTime = count item.start
+downtime_cell (Some item) downtime.EndTime = count item.end
+downtime_cell (Some item) downtime.Fixed = count 1
+downtime_cell (Some item) downtime.Duration = count item.duration
+downtime_cell (Some item) downtime.TriggeredBy = count 0
+downtime_cell (Some item) downtime.IsService = flag (is_service item.object)
+
+abbrev pub comment_cell : Option Comment → CommentColumn → Value
+comment_cell None column = empty_value (comment_kind column)
+comment_cell (Some item) comment.Id = count item.id
+comment_cell (Some item) comment.Author = Words item.author
+comment_cell (Some item) comment.Comment = Words item.text
+comment_cell (Some item) comment.EntryTime = count item.time
+comment_cell (Some item) comment.EntryType = count item.entry_type
+comment_cell (Some item) comment.Persistent = count item.persistent
+comment_cell (Some item) comment.IsService = flag (is_service item.object)
+
+-- ---- the program and the schema
+
+abbrev pub program_cell : State → ProgramColumn → Value
+program_cell s program.ProgramVersion = Words (codes "lqd 1")
+program_cell s program.EnableNotifications = flag s.notifications
+program_cell s program.NumHosts = count (length s.base.hosts)
+program_cell s program.NumServices = count (length s.base.services)
+program_cell s program.PresentSecond = count s.now
+
+-- the status table has the program's one row
+abbrev pub program_part : State → Row → ProgramColumn → Value
+program_part s row.Status column = program_cell s column
+program_part s row column = empty_value (program_kind column)
+
+abbrev pub type_name : ColKind → List ℕ
+type_name kind.Int = codes "int"
+type_name kind.Str = codes "string"
+type_name kind.List = codes "list"
+type_name kind.Nums = codes "list"
+type_name kind.Pairs = codes "list"
+
+-- a column is described by its name
+abbrev pub schema_cell : Option Entry → SchemaColumn → Value
+schema_cell None column = empty_value (schema_kind column)
+schema_cell (Some entry) schema.Table = Words (table_name entry.table)
+schema_cell (Some entry) schema.Name = Words (full_name entry.column)
+schema_cell (Some entry) schema.Type = Words (type_name (own_kind entry.column.own))
+schema_cell (Some entry) schema.Description = Words (full_name entry.column)
+
+-- ---- services as pairs
+
+-- the names of a service: its host's, and its description
+abbrev pub pair_of : Base → Service → Option (List ℕ × List ℕ)
+pair_of base service = option_map (λ host. (host.host_name, service.service_description)) (slice_get base.hosts service.host.0)
+
+abbrev pub pair_at : Base → ServiceId → Option (List ℕ × List ℕ)
+pair_at base id = option_and_then (pair_of base) (slice_get base.services id.0)

@@ -1,0 +1,190 @@
+//! What a row is about.
+
+ghost use Rattle.std.specs.Prelude.{◌≡◌};
+ghost use Rattle.std.specs.List.{slice_get};
+ghost use Rattle.std.specs.Option.{option_copied};
+ghost use Rattle.lq_tables.specs.About.{comment_with, downtime_with, host_of_object, host_of_service, row_command, row_comment, row_contact, row_contact_group, row_downtime, row_entry, row_host, row_host_group, row_object, row_period, row_service, row_service_group, service_of_object};
+
+use crate::row::Row;
+use crate::schema::{Entry, entry_at};
+use lq_live::Live;
+use lq_records::{
+    Base, Command, Comment, Contact, ContactGroup, Downtime, HostGroupId, HostId, Object, Period,
+    ServiceGroupId, ServiceId,
+};
+
+// ---- downtimes and comments
+
+pub(crate) fn row_downtime(live: &Live, row: Row) -> Option<&Downtime>
+    ensures { option_copied result ≡ row_downtime live.now.state row }
+{
+    match row {
+        Row::Downtime(id) => downtime_with(live.downtimes(), id),
+        _ => None,
+    }
+}
+
+pub(crate) fn row_comment(live: &Live, row: Row) -> Option<&Comment>
+    ensures { option_copied result ≡ row_comment live.now.state row }
+{
+    match row {
+        Row::Comment(id) => comment_with(live.comments(), id),
+        _ => None,
+    }
+}
+
+/// The first downtime with an id.
+fn downtime_with(downtimes: &[Downtime], id: u64) -> Option<&Downtime>
+    ensures { option_copied result ≡ downtime_with id downtimes.now }
+{
+    downtimes.iter().find(|downtime| downtime.id == id)
+}
+
+/// The first comment with an id.
+fn comment_with(comments: &[Comment], id: u64) -> Option<&Comment>
+    ensures { option_copied result ≡ comment_with id comments.now }
+{
+    comments.iter().find(|comment| comment.id == id)
+}
+
+/// The host or service that a downtime's or a comment's row is about.
+fn row_object(live: &Live, row: Row) -> Option<Object>
+    ensures { result ≡ row_object live.now.state row }
+{
+    match row {
+        Row::Downtime(id) => match downtime_with(live.downtimes(), id) {
+            Some(downtime) => Some(downtime.object),
+            None => None,
+        },
+        Row::Comment(id) => match comment_with(live.comments(), id) {
+            Some(comment) => Some(comment.object),
+            None => None,
+        },
+        _ => None,
+    }
+}
+
+// ---- hosts and services
+
+/// The host that a row is about, or whose service it is about.
+pub(crate) fn row_host(live: &Live, row: Row) -> Option<HostId>
+    ensures { result ≡ row_host live.now.state row }
+{
+    match row {
+        Row::Host(id) | Row::HostOf(_, id) => Some(id),
+        Row::Service(id) | Row::ServiceOf(_, id) | Row::GroupService(_, id) => {
+            host_of_service(live.base(), id)
+        }
+        _ => match row_object(live, row) {
+            Some(object) => host_of_object(live.base(), object),
+            None => None,
+        },
+    }
+}
+
+/// The service that a row is about.
+pub(crate) fn row_service(live: &Live, row: Row) -> Option<ServiceId>
+    ensures { result ≡ row_service live.now.state row }
+{
+    match row {
+        Row::Service(id) | Row::ServiceOf(_, id) | Row::GroupService(_, id) => Some(id),
+        _ => match row_object(live, row) {
+            Some(object) => service_of_object(object),
+            None => None,
+        },
+    }
+}
+
+fn host_of_object(base: &Base, object: Object) -> Option<HostId>
+    ensures { result ≡ host_of_object base.now object }
+{
+    match object {
+        Object::Host(id) => Some(id),
+        Object::Service(id) => host_of_service(base, id),
+    }
+}
+
+fn host_of_service(base: &Base, id: ServiceId) -> Option<HostId>
+    ensures { result ≡ host_of_service base.now id }
+{
+    match base.services.as_slice().get(id.0 as usize) {
+        Some(service) => Some(service.host),
+        None => None,
+    }
+}
+
+fn service_of_object(object: Object) -> Option<ServiceId>
+    ensures { result ≡ service_of_object object }
+{
+    match object {
+        Object::Host(_) => None,
+        Object::Service(id) => Some(id),
+    }
+}
+
+// ---- the rest of the base
+
+pub(crate) fn row_host_group(row: Row) -> Option<HostGroupId>
+    ensures { result ≡ row_host_group row }
+{
+    match row {
+        Row::HostGroup(id) | Row::HostOf(id, _) | Row::GroupService(id, _) => Some(id),
+        _ => None,
+    }
+}
+
+pub(crate) fn row_service_group(row: Row) -> Option<ServiceGroupId>
+    ensures { result ≡ row_service_group row }
+{
+    match row {
+        Row::ServiceGroup(id) | Row::ServiceOf(id, _) => Some(id),
+        _ => None,
+    }
+}
+
+pub(crate) fn row_contact(base: &Base, row: Row) -> Option<&Contact>
+    ensures { option_copied result ≡ row_contact base.now row }
+{
+    match row {
+        Row::Contact(id) => base.contacts.as_slice().get(id.0 as usize),
+        _ => None,
+    }
+}
+
+pub(crate) fn row_contact_group(base: &Base, row: Row) -> Option<&ContactGroup>
+    ensures { option_copied result ≡ row_contact_group base.now row }
+{
+    match row {
+        Row::ContactGroup(id) => base.contact_groups.as_slice().get(id.0 as usize),
+        _ => None,
+    }
+}
+
+pub(crate) fn row_command(base: &Base, row: Row) -> Option<&Command>
+    ensures { option_copied result ≡ row_command base.now row }
+{
+    match row {
+        Row::Command(id) => base.commands.as_slice().get(id.0 as usize),
+        _ => None,
+    }
+}
+
+pub(crate) fn row_period(base: &Base, row: Row) -> Option<&Period>
+    ensures { option_copied result ≡ row_period base.now row }
+{
+    match row {
+        Row::Period(id) => base.periods.as_slice().get(id.0 as usize),
+        _ => None,
+    }
+}
+
+// ---- the schema
+
+pub(crate) fn row_entry(row: Row) -> Option<Entry>
+    ensures { result ≡ row_entry row }
+{
+    match row {
+        Row::Column(place) => entry_at(place),
+        _ => None,
+    }
+}

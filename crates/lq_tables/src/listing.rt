@@ -1,0 +1,273 @@
+ghost use Rattle.std.specs.Prelude.{◌≡◌, [], ◌∷◌, ◌++◌, IfOk, OnOk, length, map, filter};
+ghost use Rattle.std.specs.List.{flat_map, range_with_len};
+ghost use Rattle.lq_tables.specs.Rows.{group_service_rows, host_group_rows, numbered, places, rows_of, runs_on, service_group_rows, service_rows};
+ghost use Rattle.lq_tables.specs.Schema.{schema};
+ghost use Rattle.lq_tables.specs.declared.row.Row.TheVariants as row;
+
+use crate::row::Row;
+use crate::schema::entry_count;
+use lq_live::Live;
+use lq_records::{
+    CommandId, Comment, ContactGroupId, ContactId, Downtime, HostGroup, HostGroupId, HostId, Items,
+    Memory, PeriodId, Service, ServiceGroup, ServiceGroupId, ServiceId, Table,
+};
+use std::alloc::{AllocError, Global};
+
+/// Rows of a table, in order.
+pub type Rows = Items<Row>;
+
+/// The rows of a table, in order: objects as the object file lists them, downtimes and comments by their
+/// ids, the members of each group as the group lists them. The only error is want of memory.
+pub fn rows(alloc: Global, live: &Live, t: Table) -> Result<Rows, Memory>
+    ensures { IfOk result (λ rows. rows ≡ rows_of live.now.state t) }
+{
+    let base = live.base();
+    let rows = match t {
+        Table::Hosts => host_rows(alloc, base.hosts.len())?,
+        Table::Services => service_rows(alloc, base.services.len())?,
+        Table::HostGroups => host_group_rows(alloc, base.host_groups.len())?,
+        Table::ServiceGroups => service_group_rows(alloc, base.service_groups.len())?,
+        Table::Contacts => contact_rows(alloc, base.contacts.len())?,
+        Table::ContactGroups => contact_group_rows(alloc, base.contact_groups.len())?,
+        Table::Commands => command_rows(alloc, base.commands.len())?,
+        Table::TimePeriods => period_rows(alloc, base.periods.len())?,
+        Table::Downtimes => downtime_rows(alloc, live.downtimes())?,
+        Table::Comments => comment_rows(alloc, live.comments())?,
+        Table::Status => status_rows(alloc)?,
+        Table::Columns => column_rows(alloc)?,
+        Table::HostsByGroup => hosts_by_group(alloc, base.host_groups.as_slice())?,
+        Table::ServicesByGroup => services_by_group(alloc, base.service_groups.as_slice())?,
+        Table::ServicesByHostGroup => services_by_host_group(
+            alloc,
+            base.services.as_slice(),
+            base.host_groups.as_slice(),
+        )?,
+    };
+    Ok(Items::from_vec(rows))
+}
+
+/// A number of objects, or a place among them. No memory holds 2 ^ 32 objects.
+fn narrow(number: usize) -> Result<u32, Memory>
+    ensures { IfOk result (λ narrow. narrow ≡ number) }
+{
+    match u32::try_from(number) {
+        Ok(narrow) => Ok(narrow),
+        Err(_) => Err(AllocError),
+    }
+}
+
+fn host_rows(alloc: Global, count: usize) -> Result<Vec<Row>, Memory>
+    ensures { IfOk result (λ rows. rows.items ≡ map (λ place. row.Host (record { 0 = place })) (range_with_len 0 count)) }
+{
+    let count = narrow(count)?;
+    (0..count)
+        .map(|place| Row::Host(HostId(place)))
+        .collect(alloc)
+}
+
+fn service_rows(alloc: Global, count: usize) -> Result<Vec<Row>, Memory>
+    ensures { IfOk result (λ rows. rows.items ≡ map (λ place. row.Service (record { 0 = place })) (range_with_len 0 count)) }
+{
+    let count = narrow(count)?;
+    (0..count)
+        .map(|place| Row::Service(ServiceId(place)))
+        .collect(alloc)
+}
+
+fn host_group_rows(alloc: Global, count: usize) -> Result<Vec<Row>, Memory>
+    ensures { IfOk result (λ rows. rows.items ≡ map (λ place. row.HostGroup (record { 0 = place })) (range_with_len 0 count)) }
+{
+    let count = narrow(count)?;
+    (0..count)
+        .map(|place| Row::HostGroup(HostGroupId(place)))
+        .collect(alloc)
+}
+
+fn service_group_rows(alloc: Global, count: usize) -> Result<Vec<Row>, Memory>
+    ensures { IfOk result (λ rows. rows.items ≡ map (λ place. row.ServiceGroup (record { 0 = place })) (range_with_len 0 count)) }
+{
+    let count = narrow(count)?;
+    (0..count)
+        .map(|place| Row::ServiceGroup(ServiceGroupId(place)))
+        .collect(alloc)
+}
+
+fn contact_rows(alloc: Global, count: usize) -> Result<Vec<Row>, Memory>
+    ensures { IfOk result (λ rows. rows.items ≡ map (λ place. row.Contact (record { 0 = place })) (range_with_len 0 count)) }
+{
+    let count = narrow(count)?;
+    (0..count)
+        .map(|place| Row::Contact(ContactId(place)))
+        .collect(alloc)
+}
+
+fn contact_group_rows(alloc: Global, count: usize) -> Result<Vec<Row>, Memory>
+    ensures { IfOk result (λ rows. rows.items ≡ map (λ place. row.ContactGroup (record { 0 = place })) (range_with_len 0 count)) }
+{
+    let count = narrow(count)?;
+    (0..count)
+        .map(|place| Row::ContactGroup(ContactGroupId(place)))
+        .collect(alloc)
+}
+
+fn command_rows(alloc: Global, count: usize) -> Result<Vec<Row>, Memory>
+    ensures { IfOk result (λ rows. rows.items ≡ map (λ place. row.Command (record { 0 = place })) (range_with_len 0 count)) }
+{
+    let count = narrow(count)?;
+    (0..count)
+        .map(|place| Row::Command(CommandId(place)))
+        .collect(alloc)
+}
+
+fn period_rows(alloc: Global, count: usize) -> Result<Vec<Row>, Memory>
+    ensures { IfOk result (λ rows. rows.items ≡ map (λ place. row.Period (record { 0 = place })) (range_with_len 0 count)) }
+{
+    let count = narrow(count)?;
+    (0..count)
+        .map(|place| Row::Period(PeriodId(place)))
+        .collect(alloc)
+}
+
+fn downtime_rows(alloc: Global, downtimes: &[Downtime]) -> Result<Vec<Row>, Memory>
+    ensures { IfOk result (λ rows. rows.items ≡ map (λ downtime. row.Downtime downtime.id) downtimes.now) }
+{
+    downtimes
+        .iter()
+        .map(|downtime| Row::Downtime(downtime.id))
+        .collect(alloc)
+}
+
+fn comment_rows(alloc: Global, comments: &[Comment]) -> Result<Vec<Row>, Memory>
+    ensures { IfOk result (λ rows. rows.items ≡ map (λ comment. row.Comment comment.id) comments.now) }
+{
+    comments
+        .iter()
+        .map(|comment| Row::Comment(comment.id))
+        .collect(alloc)
+}
+
+fn status_rows(alloc: Global) -> Result<Vec<Row>, Memory>
+    ensures { IfOk result (λ rows. rows.items ≡ row.Status ∷ []) }
+{
+    let mut rows = Vec::new(alloc);
+    rows.push(Row::Status)?;
+    Ok(rows)
+}
+
+fn column_rows(alloc: Global) -> Result<Vec<Row>, Memory>
+    ensures { IfOk result (λ rows. rows.items ≡ map row.Column (places schema)) }
+{
+    (0..entry_count()).map(Row::Column).collect(alloc)
+}
+
+fn hosts_by_group(alloc: Global, groups: &[HostGroup]) -> Result<Vec<Row>, Memory>
+    ensures { IfOk result (λ rows. rows.items ≡ flat_map host_group_rows (numbered groups.now)) }
+{
+    let mut rows = Vec::new(alloc);
+    for (place, group) in groups.iter().enumerate() {
+        push_hosts(
+            &mut rows,
+            HostGroupId(narrow(place)?),
+            group.members.as_slice(),
+        )?;
+    }
+    Ok(rows)
+}
+
+fn push_hosts(rows: &mut Vec<Row>, group: HostGroupId, members: &[HostId]) -> Result<(), Memory>
+    ensures { OnOk result (rows.new.items ≡ rows.old.items ++ map (row.HostOf group) members.now) }
+{
+    for host in members {
+        rows.push(Row::HostOf(group, *host))?;
+    }
+    Ok(())
+}
+
+fn services_by_group(alloc: Global, groups: &[ServiceGroup]) -> Result<Vec<Row>, Memory>
+    ensures { IfOk result (λ rows. rows.items ≡ flat_map service_group_rows (numbered groups.now)) }
+{
+    let mut rows = Vec::new(alloc);
+    for (place, group) in groups.iter().enumerate() {
+        push_services(
+            &mut rows,
+            ServiceGroupId(narrow(place)?),
+            group.members.as_slice(),
+        )?;
+    }
+    Ok(rows)
+}
+
+fn push_services(
+    rows: &mut Vec<Row>,
+    group: ServiceGroupId,
+    members: &[ServiceId],
+) -> Result<(), Memory>
+    ensures { OnOk result (rows.new.items ≡ rows.old.items ++ map (row.ServiceOf group) members.now) }
+{
+    for service in members {
+        rows.push(Row::ServiceOf(group, *service))?;
+    }
+    Ok(())
+}
+
+fn services_by_host_group(
+    alloc: Global,
+    services: &[Service],
+    groups: &[HostGroup],
+) -> Result<Vec<Row>, Memory>
+    ensures { IfOk result (λ rows. rows.items ≡ flat_map (group_service_rows services.now) (numbered groups.now)) }
+{
+    let mut rows = Vec::new(alloc);
+    for (place, group) in groups.iter().enumerate() {
+        push_services_of(
+            alloc,
+            &mut rows,
+            services,
+            HostGroupId(narrow(place)?),
+            group.members.as_slice(),
+        )?;
+    }
+    Ok(rows)
+}
+
+fn push_services_of(
+    alloc: Global,
+    rows: &mut Vec<Row>,
+    services: &[Service],
+    group: HostGroupId,
+    members: &[HostId],
+) -> Result<(), Memory>
+    ensures { OnOk result (rows.new.items ≡ rows.old.items ++ flat_map (service_rows services.now group) members.now) }
+{
+    for host in members {
+        let found = services_of(alloc, services, group, *host)?;
+        rows.extend_from_slice(&found)?;
+    }
+    Ok(())
+}
+
+/// The rows of a host's services.
+fn services_of(
+    alloc: Global,
+    services: &[Service],
+    group: HostGroupId,
+    host: HostId,
+) -> Result<Vec<Row>, Memory>
+    ensures { IfOk result (λ rows. rows.items ≡ service_rows services.now group host) }
+{
+    let count = narrow(services.len())?;
+    (0..count)
+        .filter(|place| runs_on(services, host, *place))
+        .map(|place| Row::GroupService(group, ServiceId(place)))
+        .collect(alloc)
+}
+
+/// Whether the service at a place runs on a host.
+fn runs_on(services: &[Service], host: HostId, place: u32) -> bool
+    ensures { result ≡ runs_on services.now host place }
+{
+    match services.get(place as usize) {
+        Some(service) => service.host.0 == host.0,
+        None => false,
+    }
+}
