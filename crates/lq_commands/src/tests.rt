@@ -140,31 +140,99 @@ fn commands_of_services(rt: HostRuntime) -> Result<(), Fail> {
     )
 }
 
+/// Compares what a line does with nothing.
+fn assert_unknown<R: Abort + AllocGlobal>(rt: &R, line: &[u8]) -> Result<(), Fail> {
+    let act = shown_act(rt.alloc(), line)?;
+    assert_eq!(rt; act.as_str(), "Unknown", "at {line:?}");
+    Ok(())
+}
+
 #[test]
-fn a_faulty_command_does_nothing(rt: HostRuntime) -> Result<(), Fail> {
+fn a_faulty_line_does_nothing(rt: HostRuntime) -> Result<(), Fail> {
     for line in [
         b"[1] ".as_slice(),
         b"[1] RESTART",
         b"[1] enable_notifications",
         b"[1] ENABLE_NOTIFICATIONS\r",
-        b"[1] ENABLE_HOST_NOTIFICATIONS",
-        b"[1] ENABLE_HOST_NOTIFICATIONS;",
-        b"[1] ENABLE_HOST_NOTIFICATIONS;c",
-        b"[1] ENABLE_HOST_NOTIFICATIONS; a",
-        b"[1] ENABLE_SVC_NOTIFICATIONS;a",
-        b"[1] ENABLE_SVC_NOTIFICATIONS;x;a",
-        b"[1] PROCESS_HOST_CHECK_RESULT;a",
-        b"[1] PROCESS_HOST_CHECK_RESULT;a;3;up",
-        b"[1] PROCESS_SERVICE_CHECK_RESULT;a;x;4;ok",
-        b"[1] ADD_HOST_COMMENT;a;1;me",
-        b"[1] DEL_HOST_COMMENT;",
-        b"[1] DEL_HOST_COMMENT;-1",
-        b"[1] DEL_HOST_COMMENT;18446744073709551616",
-        b"[1] SCHEDULE_HOST_DOWNTIME;a;1234567890123;2;1;0;0;me;why",
-        b"[1] SCHEDULE_HOST_DOWNTIME;a;1;0000000000002;1;0;0;me;why",
+        b"[1] ENABLE_NOTIFICATIONS ;",
+        b"[1]  ; ENABLE_NOTIFICATIONS",
+        b"[1] DISABLE_NOTIFICATION",
     ] {
-        let act = shown_act(rt.alloc(), line)?;
-        assert_eq!(rt; act.as_str(), "Unknown", "at {line:?}");
+        assert_unknown(&rt, line)?;
+    }
+    Ok(())
+}
+
+/// The word of each command that has fields, and lists of fields, with bars between them, with which it
+/// does nothing: a field that isn't there, an unknown name, a number that is none or out of its range.
+const MALFORMED: &[(&str, &str)] = &[
+    (
+        "PROCESS_HOST_CHECK_RESULT",
+        "|a|c;1;up|;1;up|a;;up|a;x;up|a;3;up|a;18446744073709551616;up",
+    ),
+    (
+        "PROCESS_SERVICE_CHECK_RESULT",
+        "|a|a;x|c;x;1;up|a;z;1;up|a;x;;up|a;x;-1;up|a;x;4;up",
+    ),
+    (
+        "ADD_HOST_COMMENT",
+        "|a|a;1|a;1;me|c;1;me;why|a;x;me;why|a;;me;why|a;18446744073709551616;me;why",
+    ),
+    (
+        "ADD_SVC_COMMENT",
+        "|a|a;x|a;x;1|a;x;1;me|c;x;1;me;why|a;z;1;me;why|a;x;y;me;why|a;x;18446744073709551616;me;why",
+    ),
+    ("DEL_HOST_COMMENT", "|x|-1|1 |18446744073709551616"),
+    ("DEL_SVC_COMMENT", "|x|-1|1 |18446744073709551616"),
+    (
+        "ACKNOWLEDGE_HOST_PROBLEM",
+        "|a|a;2|a;2;1|a;2;1;0|a;2;1;0;me|c;2;1;0;me;why|a;x;1;0;me;why|a;2;x;0;me;why|a;2;1;x;me;why|\
+         a;18446744073709551616;1;0;me;why",
+    ),
+    (
+        "ACKNOWLEDGE_SVC_PROBLEM",
+        "|a|a;x|a;x;2|a;x;2;1|a;x;2;1;0|a;x;2;1;0;me|c;x;2;1;0;me;why|a;z;2;1;0;me;why|a;x;y;1;0;me;why|\
+         a;x;2;y;0;me;why|a;x;2;1;y;me;why|a;x;2;1;18446744073709551616;me;why",
+    ),
+    ("REMOVE_HOST_ACKNOWLEDGEMENT", "|c| a"),
+    ("REMOVE_SVC_ACKNOWLEDGEMENT", "|a|c;x|a;z|x;a"),
+    (
+        "SCHEDULE_HOST_DOWNTIME",
+        "|a|a;1|a;1;2|a;1;2;1|a;1;2;1;0|a;1;2;1;0;5|a;1;2;1;0;5;me|c;1;2;1;0;5;me;why|\
+         a;x;2;1;0;5;me;why|a;1;x;1;0;5;me;why|a;1;2;x;0;5;me;why|a;1;2;1;x;5;me;why|a;1;2;1;0;x;me;why|\
+         a;1234567890123;2;1;0;5;me;why|a;1;0000000000002;1;0;5;me;why|\
+         a;1;2;1;0;18446744073709551616;me;why",
+    ),
+    (
+        "SCHEDULE_SVC_DOWNTIME",
+        "|a|a;x|a;x;1|a;x;1;2|a;x;1;2;1|a;x;1;2;1;0|a;x;1;2;1;0;5|a;x;1;2;1;0;5;me|c;x;1;2;1;0;5;me;why|\
+         a;z;1;2;1;0;5;me;why|a;x;y;2;1;0;5;me;why|a;x;1;y;1;0;5;me;why|a;x;1;2;y;0;5;me;why|\
+         a;x;1;2;1;y;5;me;why|a;x;1;2;1;0;y;me;why|a;x;1234567890123;2;1;0;5;me;why|\
+         a;x;1;0000000000002;1;0;5;me;why|a;x;1;2;1;0;18446744073709551616;me;why",
+    ),
+    ("DEL_HOST_DOWNTIME", "|x|-1|1 |18446744073709551616"),
+    ("DEL_SVC_DOWNTIME", "|x|-1|1 |18446744073709551616"),
+    ("ENABLE_HOST_NOTIFICATIONS", "|c| a"),
+    ("DISABLE_HOST_NOTIFICATIONS", "|c| a"),
+    ("ENABLE_SVC_NOTIFICATIONS", "|a|c;x|a;z|x;a"),
+    ("DISABLE_SVC_NOTIFICATIONS", "|a|c;x|a;z|x;a"),
+];
+
+fn assert_malformed<R: Abort + AllocGlobal>(rt: &R, word: &str, lists: &str) -> Result<(), Fail> {
+    let alloc = rt.alloc();
+    let bare = format!(in alloc; "[1] {word}")?;
+    assert_unknown(rt, bare.as_bytes())?;
+    for fields in lists.split('|') {
+        let line = format!(in alloc; "[1] {word};{fields}")?;
+        assert_unknown(rt, line.as_bytes())?;
+    }
+    Ok(())
+}
+
+#[test]
+fn a_command_wants_its_fields(rt: HostRuntime) -> Result<(), Fail> {
+    for (word, lists) in MALFORMED {
+        assert_malformed(&rt, *word, *lists)?;
     }
     Ok(())
 }

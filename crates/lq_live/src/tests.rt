@@ -186,20 +186,11 @@ fn acknowledge(alloc: Global, object: Object, sticky: u64, persistent: u64) -> A
     }
 }
 
-fn host_downtime(alloc: Global, start: u64, end: u64, fixed: u64, trigger_id: u64) -> Act {
-    Act::ScheduleHostDowntime {
-        host: HostId(0),
-        start,
-        end,
-        fixed,
-        trigger_id,
-        duration: 100,
-        author: Text::empty(alloc),
-        text: Text::empty(alloc),
-    }
-}
+/// The start and the end of a downtime, whether it is fixed, and its trigger.
+type Plan = (u64, u64, u64, u64);
 
-fn downtime(alloc: Global, object: Object, start: u64, end: u64) -> Act {
+fn downtime(alloc: Global, object: Object, plan: Plan) -> Act {
+    let (start, end, fixed, trigger_id) = plan;
     let author = Text::empty(alloc);
     let text = Text::empty(alloc);
     match object {
@@ -207,8 +198,8 @@ fn downtime(alloc: Global, object: Object, start: u64, end: u64) -> Act {
             host,
             start,
             end,
-            fixed: 1,
-            trigger_id: 0,
+            fixed,
+            trigger_id,
             duration: 100,
             author,
             text,
@@ -217,8 +208,8 @@ fn downtime(alloc: Global, object: Object, start: u64, end: u64) -> Act {
             service,
             start,
             end,
-            fixed: 1,
-            trigger_id: 0,
+            fixed,
+            trigger_id,
             duration: 100,
             author,
             text,
@@ -257,7 +248,7 @@ fn act(alloc: Global, command: Command) -> Act {
             acknowledge(alloc, object, sticky, persistent)
         }
         Command::RemoveAcknowledgement(object) => remove_acknowledgement(object),
-        Command::Downtime(object, start, end) => downtime(alloc, object, start, end),
+        Command::Downtime(object, start, end) => downtime(alloc, object, (start, end, 1, 0)),
         Command::DelHostDowntime(id) => Act::DelHostDowntime { id },
         Command::DelSvcDowntime(id) => Act::DelSvcDowntime { id },
         Command::Disable(object) => disable(object),
@@ -760,32 +751,37 @@ fn downtimes_begin_and_end(rt: HostRuntime) -> Result<(), Fail> {
     Ok(())
 }
 
-/// The start, the end, whether it is fixed, its trigger, and how many are there behind it.
-const TAKEN: &[(u64, u64, u64, u64, usize)] = &[
-    (200, 300, 0, 0, 0),
-    (200, 300, 2, 0, 0),
-    (200, 300, 1, 1, 0),
-    (200, 200, 1, 0, 0),
-    (300, 200, 1, 0, 0),
-    (50, 100, 1, 0, 0),
-    (50, 101, 1, 0, 1),
-    (200, 300, 1, 0, 2),
+/// Downtimes, and how many of them are there behind each.
+const TAKEN: &[(Plan, usize)] = &[
+    ((200, 300, 0, 0), 0),
+    ((200, 300, 2, 0), 0),
+    ((200, 300, 1, 1), 0),
+    ((200, 200, 1, 0), 0),
+    ((300, 200, 1, 0), 0),
+    ((50, 100, 1, 0), 0),
+    ((50, 101, 1, 0), 1),
+    ((200, 300, 1, 0), 2),
 ];
 
-fn assert_taken<R: Abort + AllocGlobal>(rt: &R, live: &mut Live) -> Result<(), Fail> {
+fn assert_taken<R: Abort + AllocGlobal>(
+    rt: &R,
+    live: &mut Live,
+    object: Object,
+) -> Result<(), Fail> {
     let alloc = rt.alloc();
-    for (start, end, fixed, trigger, taken) in TAKEN {
-        let act = host_downtime(alloc, *start, *end, *fixed, *trigger);
-        play(alloc, live, 100, act)?;
-        assert_eq!(rt; live.downtimes().len(), *taken, "{start} to {end}");
+    for (plan, taken) in TAKEN {
+        play(alloc, live, 100, downtime(alloc, object, *plan))?;
+        assert_eq!(rt; live.downtimes().len(), *taken, "{plan:?}");
     }
     Ok(())
 }
 
 #[test]
 fn a_downtime_is_taken_only_where_it_is_to_come(rt: HostRuntime) -> Result<(), Fail> {
-    let mut live = opened(rt.alloc())?;
-    assert_taken(&rt, &mut live)?;
+    for object in [WEB1, HTTP] {
+        let mut live = opened(rt.alloc())?;
+        assert_taken(&rt, &mut live, object)?;
+    }
     Ok(())
 }
 

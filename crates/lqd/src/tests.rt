@@ -220,7 +220,7 @@ const TABLES: &[(&[u8], &[u8])] = &[
         b"program_version;enable_notifications;num_hosts;num_services;present_second\nlqd 1;1;2;3;0\n",
     ),
     (
-        b"GET servicesbygroup\nColumns: servicegroup_name host_name description\n\n",
+        b"GET servicesbygroup\nColumns: servicegroup_name host_name service_description\n\n",
         b"sg;web1;http\nsg;web2;ping\n",
     ),
     (
@@ -256,9 +256,11 @@ COMMAND [200] ENABLE_NOTIFICATIONS
 GET hosts\nColumns: scheduled_downtime_depth downtimes\nKeepAlive: on\n
 GET downtimes\nColumns: id author comment entry_time start_time end_time fixed duration triggered_by is_service host_name service_description\nKeepAlive: on\n
 COMMAND [300] ENABLE_NOTIFICATIONS
+GET hosts\nColumns: scheduled_downtime_depth downtimes\nKeepAlive: on\n
 COMMAND [301] DEL_HOST_DOWNTIME;1
-GET hosts\nColumns: scheduled_downtime_depth downtimes\n\n",
-        b"0;1\n0;\n1;1\n0;\n1;anna;work;150;200;300;1;100;0;0;web1;\n0;\n0;\n",
+GET hosts\nColumns: scheduled_downtime_depth downtimes\nKeepAlive: on\n
+GET status\nColumns: present_second\n\n",
+        b"0;1\n0;\n1;1\n0;\n1;anna;work;150;200;300;1;100;0;0;web1;\n0;\n0;\n0;\n0;\n301\n",
     ),
     (
         b"COMMAND [100] ADD_HOST_COMMENT;web1;1;anna;say it
@@ -272,6 +274,13 @@ GET services\nColumns: description comments\n\n",
 COMMAND [101] PROCESS_SERVICE_CHECK_RESULT;web2;ping;2;x
 GET hostgroups\nColumns: name num_services num_services_ok num_services_crit num_services_unknown num_services_pending worst_service_state num_hosts_pending worst_host_state\n\n",
         b"web;3;0;1;1;1;2;2;0\nempty;0;0;0;0;0;0;0;0\n",
+    ),
+    (
+        b"COMMAND [100] PROCESS_SERVICE_CHECK_RESULT;web1;http;0;x
+COMMAND [101] PROCESS_SERVICE_CHECK_RESULT;web1;disk;1;x
+COMMAND [102] PROCESS_SERVICE_CHECK_RESULT;web2;ping;2;x
+GET hosts\nColumns: name num_services num_services_ok num_services_warn num_services_crit num_services_unknown num_services_pending worst_service_state\n\n",
+        b"web1;2;1;1;0;0;0;1\nweb2;1;0;0;1;0;0;2\n",
     ),
 ];
 
@@ -625,18 +634,23 @@ fn narrow_sink(alloc: Global) -> Result<Narrow, AllocError> {
     })
 }
 
-#[test]
-fn pieces_change_nothing(rt: HostRuntime) -> Result<(), Fail> {
+/// Runs the program on a file, with one byte a read and three a write at most.
+fn assert_pieces<R: Abort + AllocGlobal>(
+    rt: &R,
+    file: &[u8],
+    bytes: &[u8],
+    expected: &[u8],
+) -> Result<(), Fail> {
     let alloc = rt.alloc();
     let words = texts(alloc, &["ask", "f"])?;
-    let mut files = files(alloc, HOSTS, &[])?;
+    let mut files = files(alloc, file, &[])?;
     let mut input = OneByte {
-        inner: source(alloc, STREAM, &[])?,
+        inner: source(alloc, bytes, &[])?,
     };
     let mut output = narrow_sink(alloc)?;
     let mut faults = narrow_sink(alloc)?;
     let status = run(
-        &rt,
+        rt,
         alloc,
         &words,
         &mut files,
@@ -645,12 +659,37 @@ fn pieces_change_nothing(rt: HostRuntime) -> Result<(), Fail> {
         &mut faults,
     );
     assert_eq!(rt; status, 0);
-    assert_eq!(rt;
-        output.inner.held(),
-        b"web1;0\nweb2;0\nweb1;0\nweb2;1\n".as_slice()
-    );
+    assert_eq!(rt; output.inner.held(), expected);
     assert_eq!(rt; faults.inner.held(), b"".as_slice());
     Ok(())
+}
+
+/// Streams over the two hosts, and the replies.
+const STREAMS: &[(&[u8], &[u8])] = &[
+    (QUERY, ROWS),
+    (STREAM, b"web1;0\nweb2;0\nweb1;0\nweb2;1\n"),
+    (
+        b"GET hosts\nColumns: name nope\nKeepAlive: on\n\nGET hosts\nColumns: name\n\n",
+        b"web1\nweb2\n",
+    ),
+];
+
+fn assert_all_pieces<R: Abort + AllocGlobal>(
+    rt: &R,
+    file: &[u8],
+    streams: &[(&[u8], &[u8])],
+) -> Result<(), Fail> {
+    for (bytes, expected) in streams {
+        assert_pieces(rt, file, *bytes, *expected)?;
+    }
+    Ok(())
+}
+
+#[test]
+fn pieces_change_nothing(rt: HostRuntime) -> Result<(), Fail> {
+    assert_all_pieces(&rt, HOSTS, STREAMS)?;
+    assert_all_pieces(&rt, SERVICES, TABLES)?;
+    assert_all_pieces(&rt, SERVICES, CHANGED)
 }
 
 #[test]
