@@ -672,6 +672,10 @@ const STREAMS: &[(&[u8], &[u8])] = &[
         b"GET hosts\nColumns: name nope\nKeepAlive: on\n\nGET hosts\nColumns: name\n\n",
         b"web1\nweb2\n",
     ),
+    (b"GET nothing\n\n", b""),
+    (b"GET\n\n", b""),
+    (b"FOO\n\n", b""),
+    (b"", b""),
 ];
 
 fn assert_all_pieces<R: Abort + AllocGlobal>(
