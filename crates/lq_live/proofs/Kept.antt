@@ -26,6 +26,7 @@ use Rattle.lq_live.specs.declared.edit.Edit.{Edit}
 use Rattle.lq_live.specs.declared.edit.Edit.TheVariants as edit
 use Rattle.lq_live.proofs.Ahead.{added_from, filter_from}
 use Rattle.lq_live.proofs.Covered.{nothing_left}
+use Rattle.lq_live.proofs.IdLemmas.{step_ids}
 use Rattle.lq_live.proofs.EffectLemmas.{IsEffect, at_timely, effect_is}
 use Rattle.lq_live.proofs.Played.{all_after_stages}
 use Rattle.lq_live.proofs.Rising.{due_lines_up_to, due_rising, due_timely, timely_later}
@@ -238,6 +239,7 @@ step_kept s update kept =
       second = rw of.now (second_below s.now update.time kept.second);
       downtime_ids = omega (arith, of.downtime_ids);
       comment_ids = omega (arith, of.comment_ids);
+      ids = step_ids s update kept.ids;
     }
 
 -- a step writes a line

@@ -4,5 +4,6 @@ pub mod Ahead
 pub mod Rising
 pub mod Covered
 pub mod EffectLemmas
+pub mod IdLemmas
 pub mod Kept
 pub mod Apply

@@ -4,6 +4,7 @@ pub mod Downtimes
 pub mod Edits
 pub mod Effects
 pub mod Step
+pub mod Ids
 pub mod Parts
 pub mod Moved
 pub mod Order

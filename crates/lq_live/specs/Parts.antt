@@ -5,6 +5,7 @@ use Rattle.lq_log.specs.declared.book.TheConstants.{TIME_LIMIT}
 use Rattle.lq_log.specs.Book.{last_time}
 use Rattle.lq_live.specs.State.{State}
 use Rattle.lq_live.specs.Downtimes.{stages}
+use Rattle.lq_live.specs.Ids.{HasRisingIds}
 use Rattle.lq_live.specs.declared.parts.Parts.{Parts}
 use Rattle.lq_live.specs.declared.stage.Stage.{Stage}
 use Rattle.lq_live.specs.declared.edit.Edit.{Edit}
@@ -50,7 +51,7 @@ AllOrdered [] = Unit {0}
 AllOrdered (stage ∷ downtimes) = (stage.start < stage.end) × AllOrdered downtimes
 
 -- Each object has a status. The last line isn't past the present second, all that is to come of the downtimes is,
--- the second can be written, and no id passes the number of lines by more than one.
+-- the second can be written, no id passes the number of lines by more than one, and none is given twice.
 pub record IsKept (s : State) : Type 0 where
   pub hosts : length s.host_status ≡ length s.base.hosts
   pub services : length s.service_status ≡ length s.base.services
@@ -60,6 +61,7 @@ pub record IsKept (s : State) : Type 0 where
   pub second : s.now < TIME_LIMIT
   pub downtime_ids : s.next_downtime ≤ length s.log + 1
   pub comment_ids : s.next_comment ≤ length s.log + 1
+  pub ids : HasRisingIds s
 
 -- ---- edits
 

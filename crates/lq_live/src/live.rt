@@ -2,6 +2,7 @@ ghost use Rattle.std.specs.Prelude.{◌≡◌, [], Some, ◌+◌, ◌<◌, ◌�
 ghost use Rattle.std.specs.List.{slice_get};
 ghost use Rattle.std.specs.Option.{option_copied};
 ghost use Rattle.lq_live.specs.Downtimes.{stages};
+ghost use Rattle.lq_live.specs.Ids.{IdsRise, comment_id, downtime_id};
 ghost use Rattle.lq_live.specs.Parts.{AllFrom, IsKept, state_of};
 ghost use Rattle.lq_live.specs.State.{Counted, opened, pending};
 ghost use Rattle.lq_live.specs.Step.{step};
@@ -148,16 +149,18 @@ impl Live {
         self.parts.notifications
     }
 
-    /// The downtimes, in order of their ids.
+    /// The downtimes, in order of their ids. No two have the same.
     pub fn downtimes(&self) -> &[Downtime]
-        ensures { result.now ≡ self.now.state.downtimes }
+        ensures all { result.now ≡ self.now.state.downtimes }
+        ensures ids { IdsRise downtime_id 0 self.now.state.next_downtime result.now }
     {
         &self.parts.downtimes
     }
 
-    /// The comments, in order of their ids.
+    /// The comments, in order of their ids. No two have the same.
     pub fn comments(&self) -> &[Comment]
-        ensures { result.now ≡ self.now.state.comments }
+        ensures all { result.now ≡ self.now.state.comments }
+        ensures ids { IdsRise comment_id 0 self.now.state.next_comment result.now }
     {
         &self.parts.comments
     }
