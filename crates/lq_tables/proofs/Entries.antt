@@ -1,14 +1,14 @@
 -- The columns of some tables: how many there are, and which stands at a place.
 use Rattle.std.proofs.Common.{◌≡◌, ℕ, zero, suc, ◌+◌, ◌-◌, ◌≤◌, Option, Some, List, [], ◌∷◌, ◌++◌, length, drop, lit≤, sym, ap, ◌∙◌, arith, slice_get, length-append}
 use Rattle.std.specs.List.{flat_map}
+use Rattle.std.specs.Option.{option_map}
 use Rattle.std.proofs.Math.Seq.{drop-cons}
 use Rattle.std.proofs.lemmas.List.{length-map}
-use Rattle.std.proofs.lemmas.Option.{slice_get_within, get_or_from_slice_get}
+use Rattle.std.proofs.lemmas.Option.{slice_get-map, slice_get_within, get_or_from_slice_get}
 use Rattle.lq_records.specs.declared.columns.Col.{Col}
 use Rattle.lq_records.specs.declared.columns.Table.{Table}
 use Rattle.lq_records.specs.declared.columns.Table.TheVariants as table
 use Rattle.lq_records.specs.Schema.{columns_of}
-use Rattle.lq_records.proofs.SchemaLemmas.{in_front, mapped_at}
 use Rattle.lq_tables.specs.Schema.{entries_of}
 use Rattle.lq_tables.specs.declared.schema.Entry.{Entry}
 
@@ -36,6 +36,12 @@ from_place xs i x found =
     let next : i + 1 ≡ suc i = omega arith in
     drop-cons xs i x (slice_get_within xs i x found) ∙ ap (λ y. y ∷ drop (suc i) xs) (get_or_from_slice_get xs i x x found) ∙ ap (λ k. x ∷ drop k xs) (sym next)
 
+-- a place in a front
+in_front : {A : Type 0} (front back : List A) (i : ℕ) (x : A) → slice_get front i ≡ Some x → slice_get (front ++ back) i ≡ Some x
+in_front [] back i x found = absurd (omega (arith, slice_get_within [] i x found))
+in_front (y ∷ front) back zero x found = found
+in_front (y ∷ front) back (suc i) x found = in_front front back i x found
+
 -- a place behind a front
 behind : {A : Type 0} (front back : List A) (i : ℕ) → length front ≤ i → slice_get (front ++ back) i ≡ slice_get back (i - length front)
 behind [] back i past = let same : i ≡ i - 0 = omega arith in ap (slice_get back) same
@@ -58,7 +64,7 @@ pub found_here : (tables : List Table) (i rest : ℕ) (t : Table) (column : Col)
     → slice_get (flat_map entries_of (drop i tables)) rest ≡ whole → Some (record { table = t; column = column }) ≡ whole
 found_here tables i rest t column whole at found is =
     sym (in_front (entries_of t) (flat_map entries_of (drop (i + 1) tables)) rest (record { table = t; column = column })
-    (mapped_at (λ column. record { table = t; column = column }) (columns_of t) rest column found))
+    (slice_get-map (λ column. record { table = t; column = column }) (columns_of t) rest ∙ ap (option_map (λ column. record { table = t; column = column })) found))
     ∙ sym (ap (λ list. slice_get (flat_map entries_of list) rest) (from_place tables i t at)) ∙ is
 
 pub found_later : (tables : List Table) (i rest n : ℕ) (t : Table) (whole : Option Entry)

@@ -19,7 +19,7 @@ pub(crate) fn row_downtime(live: &Live, row: Row) -> Option<&Downtime>
     ensures { option_copied result ≡ row_downtime live.now.state row }
 {
     match row {
-        Row::Downtime(id) => downtime_with(live.downtimes(), id),
+        Row::Downtime(id) => downtime_with(live, id),
         _ => None,
     }
 }
@@ -28,23 +28,31 @@ pub(crate) fn row_comment(live: &Live, row: Row) -> Option<&Comment>
     ensures { option_copied result ≡ row_comment live.now.state row }
 {
     match row {
-        Row::Comment(id) => comment_with(live.comments(), id),
+        Row::Comment(id) => comment_with(live, id),
         _ => None,
     }
 }
 
-/// The first downtime with an id.
-fn downtime_with(downtimes: &[Downtime], id: u64) -> Option<&Downtime>
-    ensures { option_copied result ≡ downtime_with id downtimes.now }
+/// The downtime with an id.
+fn downtime_with(live: &Live, id: u64) -> Option<&Downtime>
+    ensures { option_copied result ≡ downtime_with id live.now.state.downtimes }
 {
-    downtimes.iter().find(|downtime| downtime.id == id)
+    let downtimes = live.downtimes();
+    match downtimes.binary_search_by_key(&id, |downtime| downtime.id) {
+        Ok(place) => Some(&downtimes[place]),
+        Err(_) => None,
+    }
 }
 
-/// The first comment with an id.
-fn comment_with(comments: &[Comment], id: u64) -> Option<&Comment>
-    ensures { option_copied result ≡ comment_with id comments.now }
+/// The comment with an id.
+fn comment_with(live: &Live, id: u64) -> Option<&Comment>
+    ensures { option_copied result ≡ comment_with id live.now.state.comments }
 {
-    comments.iter().find(|comment| comment.id == id)
+    let comments = live.comments();
+    match comments.binary_search_by_key(&id, |comment| comment.id) {
+        Ok(place) => Some(&comments[place]),
+        Err(_) => None,
+    }
 }
 
 /// The host or service that a downtime's or a comment's row is about.
@@ -52,11 +60,11 @@ fn row_object(live: &Live, row: Row) -> Option<Object>
     ensures { result ≡ row_object live.now.state row }
 {
     match row {
-        Row::Downtime(id) => match downtime_with(live.downtimes(), id) {
+        Row::Downtime(id) => match downtime_with(live, id) {
             Some(downtime) => Some(downtime.object),
             None => None,
         },
-        Row::Comment(id) => match comment_with(live.comments(), id) {
+        Row::Comment(id) => match comment_with(live, id) {
             Some(comment) => Some(comment.object),
             None => None,
         },

@@ -1,5 +1,6 @@
 ghost use Rattle.std.specs.Prelude.{◌≡◌, [], ◌∷◌, ◌++◌, IfOk, OnOk, length, map, filter};
 ghost use Rattle.std.specs.List.{flat_map, range_with_len};
+ghost use Rattle.lq_tables.specs.Own.{IsOwn};
 ghost use Rattle.lq_tables.specs.Rows.{group_service_rows, host_group_rows, numbered, places, rows_of, runs_on, service_group_rows, service_rows};
 ghost use Rattle.lq_tables.specs.Schema.{schema};
 ghost use Rattle.lq_tables.specs.declared.row.Row.TheVariants as row;
@@ -17,11 +18,14 @@ use std::alloc::{AllocError, Global};
 pub type Rows = Items<Row>;
 
 /// The rows of a table, in order: objects as the object file lists them, downtimes and comments by their
-/// ids, the members of each group as the group lists them. The only error is want of memory.
+/// ids, the members of each group as the group lists them. The row of each downtime and of each comment is
+/// about that one. The only error is want of memory.
 pub fn rows(alloc: Global, live: &Live, t: Table) -> Result<Rows, Memory>
-    ensures { IfOk result (λ rows. rows ≡ rows_of live.now.state t) }
+    ensures all { IfOk result (λ rows. rows ≡ rows_of live.now.state t) }
+    ensures own { IfOk result (λ rows. IsOwn live.now.state t rows) }
 {
     let base = live.base();
+    let (downtimes, comments) = (live.downtimes(), live.comments());
     let rows = match t {
         Table::Hosts => host_rows(alloc, base.hosts.len())?,
         Table::Services => service_rows(alloc, base.services.len())?,
@@ -31,8 +35,8 @@ pub fn rows(alloc: Global, live: &Live, t: Table) -> Result<Rows, Memory>
         Table::ContactGroups => contact_group_rows(alloc, base.contact_groups.len())?,
         Table::Commands => command_rows(alloc, base.commands.len())?,
         Table::TimePeriods => period_rows(alloc, base.periods.len())?,
-        Table::Downtimes => downtime_rows(alloc, live.downtimes())?,
-        Table::Comments => comment_rows(alloc, live.comments())?,
+        Table::Downtimes => downtime_rows(alloc, downtimes)?,
+        Table::Comments => comment_rows(alloc, comments)?,
         Table::Status => status_rows(alloc)?,
         Table::Columns => column_rows(alloc)?,
         Table::HostsByGroup => hosts_by_group(alloc, base.host_groups.as_slice())?,
