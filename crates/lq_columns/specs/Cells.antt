@@ -9,26 +9,27 @@ use Rattle.lq_records.specs.declared.base.Service.{Service}
 use Rattle.lq_records.specs.declared.ids.HostId.{HostId}
 use Rattle.lq_records.specs.declared.ids.ServiceId.{ServiceId}
 use Rattle.lq_records.specs.declared.ids.HostGroupId.{HostGroupId}
-use Rattle.lq_records.specs.declared.status.Status.{Status}
-use Rattle.lq_records.specs.declared.status.Object.{Object}
-use Rattle.lq_records.specs.declared.status.Object.TheVariants as object
-use Rattle.lq_records.specs.declared.columns.ObjectColumn.{ObjectColumn}
-use Rattle.lq_records.specs.declared.columns.ObjectColumn.TheVariants as object_column
-use Rattle.lq_records.specs.declared.columns.StatusColumn.{StatusColumn}
-use Rattle.lq_records.specs.declared.columns.StatusColumn.TheVariants as status_column
-use Rattle.lq_records.specs.declared.columns.ServiceCounter.{ServiceCounter}
-use Rattle.lq_records.specs.declared.columns.ServiceCounter.TheVariants as service_counter
-use Rattle.lq_records.specs.declared.columns.HostCounter.{HostCounter}
-use Rattle.lq_records.specs.declared.columns.HostCounter.TheVariants as host_counter
-use Rattle.lq_records.specs.declared.columns.HostColumn.{HostColumn}
-use Rattle.lq_records.specs.declared.columns.HostColumn.TheVariants as host_column
-use Rattle.lq_records.specs.declared.columns.ServiceColumn.{ServiceColumn}
-use Rattle.lq_records.specs.declared.columns.ServiceColumn.TheVariants as service_column
-use Rattle.lq_records.specs.declared.columns.OwnColumn.{OwnColumn}
-use Rattle.lq_records.specs.declared.columns.OwnColumn.TheVariants as own
-use Rattle.lq_records.specs.Value.{Value, Number, Words, Texts, Numbers, empty_value}
-use Rattle.lq_records.specs.Kinds.{host_kind, own_kind, service_kind}
-use Rattle.lq_live.specs.State.{State, is_same_object}
+use Rattle.lq_events.specs.declared.status.Status.{Status}
+use Rattle.lq_records.specs.declared.object.Object.{Object}
+use Rattle.lq_records.specs.declared.object.Object.TheVariants as object
+use Rattle.lq_schema.specs.declared.object.ObjectColumn.{ObjectColumn}
+use Rattle.lq_schema.specs.declared.object.ObjectColumn.TheVariants as object_column
+use Rattle.lq_schema.specs.declared.status.StatusColumn.{StatusColumn}
+use Rattle.lq_schema.specs.declared.status.StatusColumn.TheVariants as status_column
+use Rattle.lq_schema.specs.declared.service_counter.ServiceCounter.{ServiceCounter}
+use Rattle.lq_schema.specs.declared.service_counter.ServiceCounter.TheVariants as service_counter
+use Rattle.lq_schema.specs.declared.host_counter.HostCounter.{HostCounter}
+use Rattle.lq_schema.specs.declared.host_counter.HostCounter.TheVariants as host_counter
+use Rattle.lq_schema.specs.declared.host.HostColumn.{HostColumn}
+use Rattle.lq_schema.specs.declared.host.HostColumn.TheVariants as host_column
+use Rattle.lq_schema.specs.declared.service.ServiceColumn.{ServiceColumn}
+use Rattle.lq_schema.specs.declared.service.ServiceColumn.TheVariants as service_column
+use Rattle.lq_schema.specs.declared.columns.OwnColumn.{OwnColumn}
+use Rattle.lq_schema.specs.declared.columns.OwnColumn.TheVariants as own
+use Rattle.lq_schema.specs.Value.{Value, Number, Words, Texts, Numbers, empty_value}
+use Rattle.lq_schema.specs.Kinds.{host_kind, own_kind, service_kind}
+use Rattle.lq_live.specs.State.{State}
+use Rattle.lq_records.specs.Object.{is_same_object}
 use Rattle.lq_columns.specs.Names.{child_names_of, contact_group_names_of, contact_names_of, contacts_of, descriptions_of, group_names_of, host_names_of, variable_names_of, variable_values_of}
 use Rattle.lq_columns.specs.Counts.{hosts_counted, services_counted, worst_host, worst_service}
 use Rattle.lq_columns.specs.declared.scope.Scope.{Scope}

@@ -7,7 +7,8 @@ use Rattle.lq_records.specs.declared.base.Base.{Base}
 use Rattle.lq_records.specs.declared.ids.HostId.{HostId}
 use Rattle.lq_records.specs.declared.ids.HostGroupId.{HostGroupId}
 use Rattle.lq_records.specs.declared.ids.ServiceGroupId.{ServiceGroupId}
-use Rattle.lq_records.specs.declared.status.Status.{Status}
+use Rattle.lq_records.specs.declared.ids.ServiceId.{ServiceId}
+use Rattle.lq_events.specs.declared.status.Status.{Status}
 use Rattle.lq_live.specs.State.{State}
 use Rattle.lq_columns.specs.Names.{has_host}
 use Rattle.lq_columns.specs.declared.scope.Scope.{Scope}
@@ -20,6 +21,10 @@ use Rattle.lq_columns.specs.declared.counted.Counted.TheVariants as counted
 -- the hosts that a group lists
 abbrev pub group_members : Base → HostGroupId → List HostId
 group_members base group = option_map_or (λ group. group.members) (slice_get base.host_groups group.0) []
+
+-- the services that a group lists
+abbrev pub service_members : Base → ServiceGroupId → List ServiceId
+service_members base group = option_map_or (λ group. group.members) (slice_get base.service_groups group.0) []
 
 -- the service at a place is one of a host
 abbrev pub is_service_of : Base → HostId → ℕ → Bool

@@ -26,7 +26,8 @@ fn add_members(
     base: &Base,
     groups: &[ContactGroupId],
 ) -> Result<(), Memory>
-    ensures { OnOk result (found.new.items ≡ with_new found.old.items (flat_map (members_of base.now) groups.now)) }
+    ensures { OnOk result (found.new.items
+        ≡ with_new found.old.items (flat_map (members_of base.now) groups.now)) }
 {
     for group in groups {
         add_new(found, members_of(base, *group))?;

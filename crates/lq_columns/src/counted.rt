@@ -1,10 +1,10 @@
 ghost use Rattle.std.specs.Prelude.{◌≡◌};
 ghost use Rattle.lq_columns.specs.Counts.{counts, counts_at, is_pending};
 
-use lq_records::Status;
+use lq_events::Status;
 
 /// Which hosts or services a number counts.
-#[derive(Clone, Copy, Debug)]
+#[derive(Clone, Copy)]
 pub(crate) enum Counted {
     All,
     /// Those that were never checked.

@@ -1,11 +1,14 @@
 ghost use Rattle.std.specs.Prelude.{◌≡◌};
-ghost use Rattle.lq_records.specs.Value.{empty_value, shown};
+ghost use Rattle.std.specs.Option.{IfSome, IsSome};
+ghost use Rattle.lq_schema.specs.Value.{Number, Words, empty_value, shown};
+ghost use Rattle.lq_columns.specs.Plain.{IsNumber, IsText};
 
-use lq_records::{ColKind, Items, Val};
+use lq_records::Items;
+use lq_schema::{ColKind, Val};
 use std::alloc::Global;
 
-/// The value of a cell without an object, by the kind of its column: 0, an empty text or an empty list. It
-/// takes no memory.
+/// The value of a cell without an object, by the kind of its column: 0, an empty text or an empty
+/// list. It takes no memory.
 pub fn empty_value(alloc: Global, kind: ColKind) -> Val<'static>
     ensures { shown result ≡ empty_value kind }
 {
@@ -15,5 +18,29 @@ pub fn empty_value(alloc: Global, kind: ColKind) -> Val<'static>
         ColKind::List => Val::List(Items::new(alloc)),
         ColKind::Nums => Val::Nums(Items::new(alloc)),
         ColKind::Pairs => Val::Pairs(Items::new(alloc)),
+    }
+}
+
+/// The number of a cell without an object, None where its column has no numbers.
+#[inline(never)]
+pub fn empty_number(kind: ColKind) -> Option<i128>
+    ensures value { IfSome result (λ number. empty_value kind ≡ Number number) }
+    ensures given { IsNumber kind → IsSome result }
+{
+    match kind {
+        ColKind::Int => Some(0),
+        ColKind::Str | ColKind::List | ColKind::Nums | ColKind::Pairs => None,
+    }
+}
+
+/// The text of a cell without an object, None where its column has no single texts.
+#[inline(never)]
+pub fn empty_text(kind: ColKind) -> Option<&'static str>
+    ensures value { IfSome result (λ text. empty_value kind ≡ Words text.now) }
+    ensures given { IsText kind → IsSome result }
+{
+    match kind {
+        ColKind::Str => Some(""),
+        ColKind::Int | ColKind::List | ColKind::Nums | ColKind::Pairs => None,
     }
 }

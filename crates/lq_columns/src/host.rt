@@ -1,23 +1,72 @@
 ghost use Rattle.std.specs.Prelude.{◌≡◌, IfOk, IsOk};
 ghost use Rattle.std.specs.List.{slice_get};
-ghost use Rattle.lq_records.specs.Kinds.{host_kind, own_kind};
-ghost use Rattle.lq_records.specs.Value.{shown};
+ghost use Rattle.std.specs.Option.{IfSome, IsSome};
+ghost use Rattle.lq_schema.specs.Kinds.{host_kind, own_kind};
+ghost use Rattle.lq_schema.specs.Value.{Number, Words, shown};
+ghost use Rattle.lq_schema.specs.declared.columns.OwnColumn.TheVariants as own;
 ghost use Rattle.lq_columns.specs.Cells.{host_at, host_cell, of_host};
-ghost use Rattle.lq_columns.specs.Plain.{IsPlain};
+ghost use Rattle.lq_columns.specs.Plain.{IsHeldByHost, IsNumber, IsPlain, IsText};
 
 use crate::counters::services_value;
-use crate::empty::empty_value;
-use crate::names::{child_names, descriptions, host_names};
-use crate::object::object_value;
+use crate::empty::{empty_number, empty_text, empty_value};
+use crate::monitored::Monitored;
+use crate::names::{child_names, descriptions, names_of};
+use crate::object::{object_number, object_text};
 use crate::scope::Scope;
-use crate::status::status_value;
+use crate::status::{status_number, status_text};
 use lq_live::Live;
-use lq_records::{Col, Host, HostColumn, HostId, Memory, Object, OwnColumn, Status, Val, kind};
+use lq_records::{HostId, Memory, Object};
+use lq_schema::{Col, HostColumn, OwnColumn, Val, kind};
 use std::alloc::Global;
 
-/// The value of a column of a host. Where the base has no such host, or the column isn't one of hosts,
-/// it is 0, an empty text or an empty list. The only error is want of memory; numbers and single texts
-/// take none.
+/// The number of a column of a host that stands in the state as it is, None for any other column,
+/// as a text or a counter. 0 where the base has no such host.
+#[inline]
+pub fn host_number(live: &Live, column: HostColumn, id: HostId) -> Option<i128>
+    ensures value { IfSome result (λ number.
+        of_host live.now.state id (own.Host column) ≡ Number number) }
+    ensures given { IsNumber (host_kind column) → IsHeldByHost column → IsSome result }
+{
+    let Some(host) = live.base().hosts.as_slice().get(id.0 as usize) else {
+        return empty_number(OwnColumn::Host(column).kind());
+    };
+    let Some(status) = live.host_statuses().get(id.0 as usize) else {
+        return empty_number(OwnColumn::Host(column).kind());
+    };
+    match column {
+        HostColumn::Object(column) => object_number(&host.fields, column),
+        HostColumn::Status(column) => status_number(status, column),
+        _ => None,
+    }
+}
+
+/// The text of a column of a host, None for a column of numbers or of lists. Empty where the base
+/// has no such host.
+#[inline]
+pub fn host_text(live: &Live, column: HostColumn, id: HostId) -> Option<&str>
+    ensures value { IfSome result (λ text.
+        of_host live.now.state id (own.Host column) ≡ Words text.now) }
+    ensures given { IsText (host_kind column) → IsSome result }
+{
+    let Some(host) = live.base().hosts.as_slice().get(id.0 as usize) else {
+        return empty_text(OwnColumn::Host(column).kind());
+    };
+    let Some(status) = live.host_statuses().get(id.0 as usize) else {
+        return empty_text(OwnColumn::Host(column).kind());
+    };
+    match column {
+        HostColumn::Name => Some(host.host_name.as_str()),
+        HostColumn::Alias => Some(host.alias.as_str()),
+        HostColumn::Address => Some(host.address.as_str()),
+        HostColumn::Object(column) => object_text(&host.fields, column),
+        HostColumn::Status(column) => status_text(status, column),
+        _ => None,
+    }
+}
+
+/// The value of a column of a host. Where the base has no such host, or the column isn't one of
+/// hosts, it is 0, an empty text or an empty list. The only error is out of memory; numbers and
+/// single texts take none.
 pub fn host_value<'a>(alloc: Global, live: &'a Live, c: Col, id: HostId) -> Result<Val<'a>, Memory>
     ensures value { IfOk result (λ v. shown v ≡ of_host live.now.state id c.own) }
     ensures plain { IsPlain (own_kind c.own) → IsOk result }
@@ -31,31 +80,21 @@ pub fn host_value<'a>(alloc: Global, live: &'a Live, c: Col, id: HostId) -> Resu
     let Some(status) = live.host_statuses().get(id.0 as usize) else {
         return Ok(empty_value(alloc, kind(c)));
     };
-    host_cell(alloc, live, id, host, status, column)
-}
-
-fn host_cell<'a>(
-    alloc: Global,
-    live: &'a Live,
-    id: HostId,
-    host: &'a Host,
-    status: &'a Status,
-    column: HostColumn,
-) -> Result<Val<'a>, Memory>
-    ensures value { IfOk result (λ v. shown v ≡ host_cell live.now.state id host.now status.now column) }
-    ensures plain { IsPlain (host_kind column) → IsOk result }
-{
-    let base = live.base();
-    let about = Object::Host(id);
+    let object = Monitored {
+        live,
+        about: Object::Host(id),
+        fields: &host.fields,
+        status,
+    };
     Ok(match column {
         HostColumn::Name => Val::Str(host.host_name.as_str()),
         HostColumn::Alias => Val::Str(host.alias.as_str()),
         HostColumn::Address => Val::Str(host.address.as_str()),
-        HostColumn::Object(column) => object_value(alloc, base, about, &host.fields, column)?,
-        HostColumn::Parents => Val::List(host_names(alloc, base, host.parents.as_slice())?),
-        HostColumn::Childs => Val::List(child_names(alloc, base, id)?),
-        HostColumn::Services => Val::List(descriptions(alloc, base, id)?),
-        HostColumn::Status(column) => status_value(alloc, live, about, status, column)?,
-        HostColumn::Counter(column) => services_value(live, Scope::Host(id), column),
+        HostColumn::Object(column) => object.object_value(alloc, column)?,
+        HostColumn::Parents => Val::List(names_of(alloc, live.base(), host.parents.as_slice())?),
+        HostColumn::Childs => Val::List(child_names(alloc, live.base(), id)?),
+        HostColumn::Services => Val::List(descriptions(alloc, live.base(), id)?),
+        HostColumn::Status(column) => object.status_value(alloc, column)?,
+        HostColumn::Counter(column) => services_value(alloc, live, Scope::Host(id), column),
     })
 }

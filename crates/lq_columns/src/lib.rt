@@ -1,24 +1,26 @@
-//! The value that each column has of a host and of a service at a state, and the counters of hosts and
-//! services.
+//! The value that each column has of a host and of a service at a state, and the counters of hosts
+//! and services.
 #![tactic(auto)]
 
+mod badness;
 mod contacts;
 mod counted;
 mod counters;
 mod empty;
 mod entries;
 mod host;
+mod marks;
+mod monitored;
 mod names;
 mod object;
 mod scope;
+mod selection;
 mod service;
 mod status;
-#[cfg(test)]
-mod tests;
 
 pub use counters::{hosts_value, services_value};
-pub use empty::empty_value;
-pub use host::host_value;
-pub use names::{contact_names, host_names};
+pub use empty::{empty_number, empty_text, empty_value};
+pub use host::{host_number, host_text, host_value};
+pub use names::{Named, names_of};
 pub use scope::Scope;
-pub use service::service_value;
+pub use service::{service_number, service_text, service_value};

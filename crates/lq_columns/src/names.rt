@@ -1,6 +1,7 @@
-ghost use Rattle.std.specs.Prelude.{◌≡◌, ◌++◌, IfOk, OnOk, filter_map, map, option_to_list};
+ghost use Rattle.std.specs.Prelude.{◌≡◌, ◌++◌, ℕ, IfOk, List, OnOk, Option, filter_map, map, option_to_list};
+ghost use Rattle.lq_records.specs.declared.base.Base.{Base};
 ghost use Rattle.std.specs.Option.{option_copied};
-ghost use Rattle.lq_columns.specs.Names.{child_names_of, contact_group_names_of, contact_names_of, description_on, descriptions_of, group_names_of, has_host, has_service, host_names_of, name_below, name_of_contact, name_of_contact_group, name_of_host, name_with_host, name_with_service, variable_names_of, variable_values_of, without_underscore};
+ghost use Rattle.lq_columns.specs.Names.{child_names_of, description_on, descriptions_of, group_names_of, has_host, has_service, name_below, name_of_contact, name_of_contact_group, name_of_host, name_with_host, name_with_service, variable_names_of, variable_values_of, without_underscore};
 
 use lq_records::{
     Base, ContactGroupId, ContactId, Host, HostGroup, HostId, Items, Memory, Object, ObjectFields,
@@ -10,69 +11,58 @@ use std::alloc::Global;
 
 // ---- by their places
 
-/// The names of the hosts at some places, in the order of the ids. An id that names nothing is left
-/// out. The only error is want of memory.
-pub fn host_names(alloc: Global, base: &Base, ids: &[HostId]) -> Result<Items<Text>, Memory>
-    ensures { IfOk result (λ names. names ≡ host_names_of base.now ids.now) }
+/// The id of an object that goes by a name.
+pub trait Named: Copy {
+    ghost name_of: { Base → Self → Option (List ℕ) };
+
+    /// The name of the object, None where the base has no such object.
+    fn name(self, base: &Base) -> Option<&Text>
+        ensures { option_copied result ≡ name_of base.now self };
+}
+
+impl Named for HostId {
+    ghost name_of = { name_of_host };
+
+    fn name(self, base: &Base) -> Option<&Text> {
+        match base.hosts.as_slice().get(self.0 as usize) {
+            Some(host) => Some(&host.host_name),
+            None => None,
+        }
+    }
+}
+
+impl Named for ContactId {
+    ghost name_of = { name_of_contact };
+
+    fn name(self, base: &Base) -> Option<&Text> {
+        match base.contacts.as_slice().get(self.0 as usize) {
+            Some(contact) => Some(&contact.contact_name),
+            None => None,
+        }
+    }
+}
+
+impl Named for ContactGroupId {
+    ghost name_of = { name_of_contact_group };
+
+    fn name(self, base: &Base) -> Option<&Text> {
+        match base.contact_groups.as_slice().get(self.0 as usize) {
+            Some(group) => Some(&group.contactgroup_name),
+            None => None,
+        }
+    }
+}
+
+/// The names of some objects, in the order of their ids. An id that names nothing is left out. The
+/// only error is out of memory.
+pub fn names_of<I: Named>(alloc: Global, base: &Base, ids: &[I]) -> Result<Items<Text>, Memory>
+    ensures { IfOk result (λ names. names ≡ filter_map (I.name_of base.now) ids.now) }
 {
     let mut names = Items::new(alloc);
     for id in ids {
-        push_name(alloc, &mut names, name_of_host(base, *id))?;
+        push_name(alloc, &mut names, id.name(base))?;
     }
     Ok(names)
-}
-
-fn name_of_host(base: &Base, id: HostId) -> Option<&Text>
-    ensures { option_copied result ≡ name_of_host base.now id }
-{
-    match base.hosts.as_slice().get(id.0 as usize) {
-        Some(host) => Some(&host.host_name),
-        None => None,
-    }
-}
-
-/// The names of the contacts at some places, in the order of the ids. An id that names nothing is left
-/// out. The only error is want of memory.
-pub fn contact_names(alloc: Global, base: &Base, ids: &[ContactId]) -> Result<Items<Text>, Memory>
-    ensures { IfOk result (λ names. names ≡ contact_names_of base.now ids.now) }
-{
-    let mut names = Items::new(alloc);
-    for id in ids {
-        push_name(alloc, &mut names, name_of_contact(base, *id))?;
-    }
-    Ok(names)
-}
-
-fn name_of_contact(base: &Base, id: ContactId) -> Option<&Text>
-    ensures { option_copied result ≡ name_of_contact base.now id }
-{
-    match base.contacts.as_slice().get(id.0 as usize) {
-        Some(contact) => Some(&contact.contact_name),
-        None => None,
-    }
-}
-
-pub(crate) fn contact_group_names(
-    alloc: Global,
-    base: &Base,
-    ids: &[ContactGroupId],
-) -> Result<Items<Text>, Memory>
-    ensures { IfOk result (λ names. names ≡ contact_group_names_of base.now ids.now) }
-{
-    let mut names = Items::new(alloc);
-    for id in ids {
-        push_name(alloc, &mut names, name_of_contact_group(base, *id))?;
-    }
-    Ok(names)
-}
-
-fn name_of_contact_group(base: &Base, id: ContactGroupId) -> Option<&Text>
-    ensures { option_copied result ≡ name_of_contact_group base.now id }
-{
-    match base.contact_groups.as_slice().get(id.0 as usize) {
-        Some(group) => Some(&group.contactgroup_name),
-        None => None,
-    }
 }
 
 /// Adds a copy of a name, where there is one.

@@ -1,7 +1,7 @@
 use lq_records::{HostGroupId, HostId, ServiceGroupId};
 
 /// Whose services are counted.
-#[derive(Clone, Copy, Debug, PartialEq, Eq)]
+#[derive(Clone, Copy)]
 pub enum Scope {
     /// The services of a host.
     Host(HostId),

@@ -1,22 +1,66 @@
 ghost use Rattle.std.specs.Prelude.{◌≡◌, IfOk, IsOk};
 ghost use Rattle.std.specs.List.{slice_get};
-ghost use Rattle.lq_records.specs.Kinds.{own_kind, service_kind};
-ghost use Rattle.lq_records.specs.Value.{shown};
+ghost use Rattle.std.specs.Option.{IfSome, IsSome};
+ghost use Rattle.lq_schema.specs.Kinds.{own_kind, service_kind};
+ghost use Rattle.lq_schema.specs.Value.{Number, Words, shown};
+ghost use Rattle.lq_schema.specs.declared.columns.OwnColumn.TheVariants as own;
 ghost use Rattle.lq_columns.specs.Cells.{of_service, service_at, service_cell};
-ghost use Rattle.lq_columns.specs.Plain.{IsPlain};
+ghost use Rattle.lq_columns.specs.Plain.{IsHeldByService, IsNumber, IsPlain, IsText};
 
-use crate::empty::empty_value;
-use crate::object::object_value;
-use crate::status::status_value;
+use crate::empty::{empty_number, empty_text, empty_value};
+use crate::monitored::Monitored;
+use crate::object::{object_number, object_text};
+use crate::status::{status_number, status_text};
 use lq_live::Live;
-use lq_records::{
-    Col, Memory, Object, OwnColumn, Service, ServiceColumn, ServiceId, Status, Val, kind,
-};
+use lq_records::{Memory, Object, ServiceId};
+use lq_schema::{Col, OwnColumn, ServiceColumn, Val, kind};
 use std::alloc::Global;
 
-/// The value of a column of a service. Where the base has no such service, or the column isn't one of
-/// services, it is 0, an empty text or an empty list. The only error is want of memory; numbers and
-/// single texts take none.
+/// The number of a column of a service that stands in the state as it is, None for any other
+/// column, as a text or how many downtimes hold. 0 where the base has no such service.
+#[inline]
+pub fn service_number(live: &Live, column: ServiceColumn, id: ServiceId) -> Option<i128>
+    ensures value { IfSome result (λ number.
+        of_service live.now.state id (own.Service column) ≡ Number number) }
+    ensures given { IsNumber (service_kind column) → IsHeldByService column → IsSome result }
+{
+    let Some(service) = live.base().services.as_slice().get(id.0 as usize) else {
+        return empty_number(OwnColumn::Service(column).kind());
+    };
+    let Some(status) = live.service_statuses().get(id.0 as usize) else {
+        return empty_number(OwnColumn::Service(column).kind());
+    };
+    match column {
+        ServiceColumn::Description => None,
+        ServiceColumn::Object(column) => object_number(&service.fields, column),
+        ServiceColumn::Status(column) => status_number(status, column),
+    }
+}
+
+/// The text of a column of a service, None for a column of numbers or of lists. Empty where the
+/// base has no such service.
+#[inline]
+pub fn service_text(live: &Live, column: ServiceColumn, id: ServiceId) -> Option<&str>
+    ensures value { IfSome result (λ text.
+        of_service live.now.state id (own.Service column) ≡ Words text.now) }
+    ensures given { IsText (service_kind column) → IsSome result }
+{
+    let Some(service) = live.base().services.as_slice().get(id.0 as usize) else {
+        return empty_text(OwnColumn::Service(column).kind());
+    };
+    let Some(status) = live.service_statuses().get(id.0 as usize) else {
+        return empty_text(OwnColumn::Service(column).kind());
+    };
+    match column {
+        ServiceColumn::Description => Some(service.service_description.as_str()),
+        ServiceColumn::Object(column) => object_text(&service.fields, column),
+        ServiceColumn::Status(column) => status_text(status, column),
+    }
+}
+
+/// The value of a column of a service. Where the base has no such service, or the column isn't one
+/// of services, it is 0, an empty text or an empty list. The only error is out of memory; numbers
+/// and single texts take none.
 pub fn service_value<'a>(
     alloc: Global,
     live: &'a Live,
@@ -35,26 +79,15 @@ pub fn service_value<'a>(
     let Some(status) = live.service_statuses().get(id.0 as usize) else {
         return Ok(empty_value(alloc, kind(c)));
     };
-    service_cell(alloc, live, id, service, status, column)
-}
-
-fn service_cell<'a>(
-    alloc: Global,
-    live: &'a Live,
-    id: ServiceId,
-    service: &'a Service,
-    status: &'a Status,
-    column: ServiceColumn,
-) -> Result<Val<'a>, Memory>
-    ensures value { IfOk result (λ v. shown v ≡ service_cell live.now.state id service.now status.now column) }
-    ensures plain { IsPlain (service_kind column) → IsOk result }
-{
-    let about = Object::Service(id);
+    let object = Monitored {
+        live,
+        about: Object::Service(id),
+        fields: &service.fields,
+        status,
+    };
     match column {
         ServiceColumn::Description => Ok(Val::Str(service.service_description.as_str())),
-        ServiceColumn::Object(column) => {
-            object_value(alloc, live.base(), about, &service.fields, column)
-        }
-        ServiceColumn::Status(column) => status_value(alloc, live, about, status, column),
+        ServiceColumn::Object(column) => object.object_value(alloc, column),
+        ServiceColumn::Status(column) => object.status_value(alloc, column),
     }
 }

@@ -1,22 +1,13 @@
--- Fields, and numbers in them.
-use Rattle.std.proofs.Common.{◌≡◌, ℕ, zero, suc, ◌-◌, ◌^◌, ◌<◌, ◌&&◌, Bool, true, Option, Some, None, List, length, nat_lt, get_or, refl, ap, ◌∙◌, arith}
+-- Numbers in fields.
+use Rattle.std.proofs.Common.{◌≡◌, ℕ, ◌^◌, ◌&&◌, Bool, true, Option, Some, None, List, length, nat_lt, get_or, refl, ap, ◌∙◌}
 use Rattle.std.specs.Prelude.{nat_le}
 use Rattle.std.specs.Char.{is_ascii_digit}
 use Rattle.std.specs.List.{list_all}
-use Rattle.std.specs.Option.{SomeIff, option_and_then}
+use Rattle.std.specs.Option.{SomeIff}
 use Rattle.std.proofs.lemmas.Bool.{and_parts, cond_both, leb-true, le-leb, lt-ltb, ltb-true}
 use Rattle.std.proofs.lemmas.List.Sums.{AllPass-from_list_all, list_all-from_AllPass}
 use Rattle.lq_text.specs.Numbers.{IsNumber, number_of}
-use Rattle.lq_commands.specs.Fields.{behind_semicolon, from_field, number}
-
--- a field but the first stands behind the one before
-pub from_field_later : (place : ℕ) (text : List ℕ) → 0 < place → from_field place text ≡ option_and_then behind_semicolon (from_field (place - 1) text)
-from_field_later zero text later = absurd (omega (arith, later))
-from_field_later (suc before) text later =
-    let same : suc before - 1 ≡ before = omega arith in
-    rw same refl
-
--- ---- numbers
+use Rattle.lq_commands.specs.Fields.{number}
 
 abbrev is_number : List ℕ → Bool
 is_number digits = nat_lt 0 (length digits) && list_all is_ascii_digit digits && nat_lt (number_of digits) (2 ^ 64)

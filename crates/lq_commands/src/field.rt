@@ -1,21 +1,22 @@
-ghost use Rattle.std.specs.Prelude.{◌≡◌, ◌<◌, ◌^◌};
+ghost use Rattle.std.specs.Prelude.{◌≡◌, [], IfOk, OnOk};
 ghost use Rattle.std.specs.List.{before_first};
-ghost use Rattle.std.specs.Option.{option_copied};
-ghost use Rattle.lq_commands.specs.Fields.{behind_semicolon, field, from_field, host_at, is_semicolon, number, number_at, second, second_at, service_at};
+ghost use Rattle.std.specs.Option.{option_copied, unwrap_or};
+ghost use Rattle.lq_commands.specs.Fields.{after, after_semicolon, all_fields, field, host_in, is_semicolon, later, number, number_in, second, second_in, service_in};
 ghost use Rattle.lq_commands.specs.Reading.{Gives};
 
 use crate::object_names::ObjectNames;
 use lq_names::Name;
-use lq_records::{HostId, ServiceId, Text};
+use lq_records::{HostId, Memory, ServiceId, Text};
 use lq_text::read_u64;
 use std::alloc::{AllocError, Global};
+use std::marker::Model;
 
 /// Why a field gives no value.
-#[derive(Debug, Drop)]
+#[derive(Drop)]
 pub(crate) enum FieldErr {
     /// The field is missing, no number, out of its range, or names nothing that is known.
     Faulty,
-    /// Want of memory.
+    /// Out of memory.
     Memory,
 }
 
@@ -29,51 +30,143 @@ impl From<AllocError> for FieldErr {
     }
 }
 
-/// The most digits that a second is written with.
-const MOST_DIGITS: usize = 12;
+/// The most digits that a start or an end is written with. One of 13 digits is faulty, even if its
+/// first ones are zeros.
+const MOST_SECOND_DIGITS: usize = 12;
 
-/// The text behind its first `;`.
-fn behind_semicolon(text: &str) -> Option<&str>
-    ensures { option_copied result ≡ behind_semicolon text.now }
+/// The fields of a command that are still to be read, in turn. The first of all is its word.
+#[derive(Drop)]
+pub(crate) struct Fields<'a> {
+    alloc: Global,
+    /// The names by which they speak of hosts and services.
+    names: &'a ObjectNames,
+    /// The text from the next field on. None after the last one.
+    rest: Option<&'a str>,
+}
+
+impl<'a> Model for Fields<'a> {
+    ghost use Rattle.std.specs.Option.{option_copied};
+    ghost use Rattle.lq_commands.specs.Fields.{Fields};
+
+    ghost Value = { Fields };
+
+    ghost view = { λ fields. record {
+      names = fields.names.now;
+      rest = option_copied fields.rest;
+    } };
+}
+
+impl<'a> Fields<'a> {
+    /// All fields of a command's text.
+    pub(crate) fn of(alloc: Global, names: &'a ObjectNames, text: &'a str) -> Self
+        ensures { result ≡ all_fields names.now text.now }
+    {
+        Fields {
+            alloc,
+            names,
+            rest: Some(text),
+        }
+    }
+
+    /// Takes the next field, which ends at its `;`. None where none is left.
+    #[tactic(auto, unfolding(crate::specs::Fields::field))]
+    pub(crate) fn next(&mut self) -> Option<&'a str>
+        ensures value { option_copied result ≡ field self.old }
+        ensures rest { self.new ≡ later self.old }
+    {
+        let (field, later) = split_field(self.rest?);
+        self.rest = later;
+        Some(field)
+    }
+
+    /// Takes a field that is a number.
+    #[tactic(auto, unfolding(crate::specs::Fields::number_in))]
+    pub(crate) fn number(&mut self) -> Result<u64, FieldErr>
+        ensures value { Gives result (number_in self.old) }
+        ensures rest { self.new ≡ later self.old }
+    {
+        let digits = self.next().ok_or(FieldErr::Faulty)?;
+        number(digits).ok_or(FieldErr::Faulty)
+    }
+
+    /// Takes a field that is a second, counted from the beginning of 1970, of at most 12 digits.
+    #[tactic(auto, unfolding(crate::specs::Fields::second_in))]
+    pub(crate) fn second(&mut self) -> Result<u64, FieldErr>
+        ensures value { Gives result (second_in self.old) }
+        ensures rest { self.new ≡ later self.old }
+    {
+        let digits = self.next().ok_or(FieldErr::Faulty)?;
+        second(digits).ok_or(FieldErr::Faulty)
+    }
+
+    /// Takes a field that is a text.
+    pub(crate) fn text(&mut self) -> Result<Text, FieldErr>
+        ensures value { Gives result (field self.old) }
+        ensures rest { self.new ≡ later self.old }
+    {
+        let field = self.next().ok_or(FieldErr::Faulty)?;
+        Ok(Text::new(self.alloc, field)?)
+    }
+
+    /// The text of all fields that are left, with their semicolons: a last field that is a text.
+    pub(crate) fn last_text(&self) -> Result<Text, FieldErr>
+        ensures { Gives result self.now.rest }
+    {
+        let rest = self.rest.ok_or(FieldErr::Faulty)?;
+        Ok(Text::new(self.alloc, rest)?)
+    }
+
+    /// As `last_text`, but empty where no field is left.
+    pub(crate) fn last_text_or_empty(&self) -> Result<Text, Memory>
+        ensures { IfOk result (λ text. text ≡ unwrap_or self.now.rest []) }
+    {
+        match self.rest {
+            Some(rest) => Text::new(self.alloc, rest),
+            None => Ok(Text::empty(self.alloc)),
+        }
+    }
+
+    /// Takes a field that names a host.
+    #[tactic(auto, unfolding(crate::specs::Fields::host_in))]
+    pub(crate) fn host(&mut self) -> Result<HostId, FieldErr>
+        ensures value { Gives result (host_in self.old) }
+        ensures rest { self.new ≡ later self.old }
+    {
+        let name = Text::new(self.alloc, self.next().ok_or(FieldErr::Faulty)?)?;
+        let name = Name::single(self.alloc, name);
+        self.names.find_host(&name).ok_or(FieldErr::Faulty)
+    }
+
+    /// Takes two fields that name a service: its host's name and its description.
+    #[tactic(auto, unfolding(crate::specs::Fields::service_in))]
+    pub(crate) fn service(&mut self) -> Result<ServiceId, FieldErr>
+        ensures value { Gives result (service_in self.old) }
+        ensures rest { OnOk result (self.new ≡ after 2 self.old) }
+    {
+        let host = self.next().ok_or(FieldErr::Faulty)?;
+        let description = self.next().ok_or(FieldErr::Faulty)?;
+        let name = service_name(self.alloc, host, description)?;
+        self.names.find_service(&name).ok_or(FieldErr::Faulty)
+    }
+}
+
+/// The name that a service is looked up by.
+fn service_name(alloc: Global, host: &str, description: &str) -> Result<Name, Memory>
+    ensures { IfOk result (λ name. name ≡ record { first = host.now; second = description.now }) }
+{
+    let host = Text::new(alloc, host)?;
+    Ok(Name::new(host, Text::new(alloc, description)?))
+}
+
+/// A text up to its first `;`, and what follows that `;`, None where there is none.
+#[tactic(auto, unfolding(crate::specs::Fields::after_semicolon))]
+fn split_field(text: &str) -> (&str, Option<&str>)
+    ensures field { result.0.now ≡ before_first is_semicolon text.now }
+    ensures later { option_copied result.1 ≡ after_semicolon text.now }
 {
     match text.split_once(';') {
-        Some((_, behind)) => Some(behind),
-        None => None,
-    }
-}
-
-/// The text from a field on: what stands behind so many `;`.
-#[tactic(auto, using(crate::proofs::FieldLemmas::from_field_later))]
-pub(crate) fn from_field(text: &str, place: usize) -> Option<&str>
-    ensures { option_copied result ≡ from_field place text.now }
-{
-    if place == 0 {
-        return Some(text);
-    }
-    match from_field(text, place - 1) {
-        Some(earlier) => behind_semicolon(earlier),
-        None => None,
-    }
-}
-
-/// A text up to its first `;`.
-fn before_semicolon(text: &str) -> &str
-    ensures { result.now ≡ before_first is_semicolon text.now }
-{
-    match text.split_once(';') {
-        Some((before, _)) => before,
-        None => text,
-    }
-}
-
-/// A field, which ends at the next `;`.
-#[tactic(auto, unfolding(crate::specs::Fields::field))]
-pub(crate) fn field(text: &str, place: usize) -> Option<&str>
-    ensures { option_copied result ≡ field place text.now }
-{
-    match from_field(text, place) {
-        Some(rest) => Some(before_semicolon(rest)),
-        None => None,
+        Some((field, later)) => (field, Some(later)),
+        None => (text, None),
     }
 }
 
@@ -90,101 +183,9 @@ fn number(digits: &str) -> Option<u64>
 fn second(digits: &str) -> Option<u64>
     ensures { result ≡ second digits.now }
 {
-    if digits.len() <= MOST_DIGITS {
+    if digits.len() <= MOST_SECOND_DIGITS {
         number(digits)
     } else {
         None
-    }
-}
-
-/// A field that is a number.
-#[tactic(auto, unfolding(crate::specs::Fields::number_at))]
-pub(crate) fn number_at(text: &str, place: usize) -> Result<u64, FieldErr>
-    ensures { Gives result (number_at place text.now) }
-{
-    let Some(digits) = field(text, place) else {
-        return Err(FieldErr::Faulty);
-    };
-    match number(digits) {
-        Some(number) => Ok(number),
-        None => Err(FieldErr::Faulty),
-    }
-}
-
-/// A field that is a second, of at most 12 digits.
-#[tactic(auto, unfolding(crate::specs::Fields::second_at))]
-pub(crate) fn second_at(text: &str, place: usize) -> Result<u64, FieldErr>
-    ensures { Gives result (second_at place text.now) }
-{
-    let Some(digits) = field(text, place) else {
-        return Err(FieldErr::Faulty);
-    };
-    match second(digits) {
-        Some(second) => Ok(second),
-        None => Err(FieldErr::Faulty),
-    }
-}
-
-/// A field that is a text.
-pub(crate) fn text_at(alloc: Global, text: &str, place: usize) -> Result<Text, FieldErr>
-    ensures { Gives result (field place text.now) }
-{
-    match field(text, place) {
-        Some(field) => Ok(Text::new(alloc, field)?),
-        None => Err(FieldErr::Faulty),
-    }
-}
-
-/// A last field that is a text: it has all that follows, semicolons too.
-pub(crate) fn last_text_at(alloc: Global, text: &str, place: usize) -> Result<Text, FieldErr>
-    ensures { Gives result (from_field place text.now) }
-{
-    match from_field(text, place) {
-        Some(rest) => Ok(Text::new(alloc, rest)?),
-        None => Err(FieldErr::Faulty),
-    }
-}
-
-/// A field that names a host.
-#[tactic(auto, unfolding(crate::specs::Fields::host_at))]
-pub(crate) fn host_at(
-    alloc: Global,
-    names: &ObjectNames,
-    text: &str,
-    place: usize,
-) -> Result<HostId, FieldErr>
-    ensures { Gives result (host_at names.now place text.now) }
-{
-    let Some(name) = field(text, place) else {
-        return Err(FieldErr::Faulty);
-    };
-    let name = Name::single(alloc, Text::new(alloc, name)?);
-    match names.find_host(&name) {
-        Some(host) => Ok(host),
-        None => Err(FieldErr::Faulty),
-    }
-}
-
-/// Two fields that name a service: its host's name and its description.
-#[tactic(auto, unfolding(crate::specs::Fields::service_at))]
-pub(crate) fn service_at(
-    alloc: Global,
-    names: &ObjectNames,
-    text: &str,
-    place: usize,
-) -> Result<ServiceId, FieldErr>
-    requires { place < 2 ^ 32 }
-    ensures { Gives result (service_at names.now place text.now) }
-{
-    let Some(host) = field(text, place) else {
-        return Err(FieldErr::Faulty);
-    };
-    let Some(description) = field(text, place + 1) else {
-        return Err(FieldErr::Faulty);
-    };
-    let name = Name::new(Text::new(alloc, host)?, Text::new(alloc, description)?);
-    match names.find_service(&name) {
-        Some(service) => Ok(service),
-        None => Err(FieldErr::Faulty),
     }
 }

@@ -1,43 +1,38 @@
-ghost use Rattle.std.specs.Prelude.{◌≡◌, ◌<◌, ◌^◌, [], IfOk};
-ghost use Rattle.std.specs.Option.{unwrap_or};
-ghost use Rattle.lq_commands.specs.Fields.{from_field};
-ghost use Rattle.lq_commands.specs.Forms.{acknowledgement_at, behind_object, check_result_at, code_at, most_code, object_at, remark_at, span_at};
+ghost use Rattle.std.specs.Prelude.{◌≡◌, OnOk};
+ghost use Rattle.lq_commands.specs.Fields.{later};
+ghost use Rattle.lq_commands.specs.Forms.{acknowledgement_in, after_object, check_result_in, code_in, comment_in, downtime_in, most_code, object_in};
 ghost use Rattle.lq_commands.specs.Reading.{Gives};
 
-use crate::field::{
-    FieldErr, from_field, host_at, last_text_at, number_at, second_at, service_at, text_at,
-};
-use crate::object_names::ObjectNames;
-use crate::verb::Side;
-use lq_records::{Memory, Object, Text};
-use std::alloc::Global;
+use crate::field::{FieldErr, Fields};
+use lq_records::{Object, ObjectKind, Text};
 
 /// `code;output`
-#[derive(Debug, Drop)]
-pub(crate) struct CheckResult {
+#[derive(Drop)]
+pub(crate) struct CheckResultFields {
     pub(crate) code: u64,
     pub(crate) output: Text,
 }
 
 /// `persistent;author;text`
-#[derive(Debug, Drop)]
-pub(crate) struct Remark {
+#[derive(Drop)]
+pub(crate) struct CommentFields {
     pub(crate) persistent: u64,
     pub(crate) author: Text,
     pub(crate) text: Text,
 }
 
 /// `sticky;notify;persistent;author;text`
-#[derive(Debug, Drop)]
-pub(crate) struct Acknowledgement {
+#[derive(Drop)]
+pub(crate) struct AcknowledgementFields {
     pub(crate) sticky: u64,
     pub(crate) notify: u64,
-    pub(crate) remark: Remark,
+    pub(crate) comment: CommentFields,
 }
 
-/// `start;end;fixed;trigger_id;duration;author;text`
-#[derive(Debug, Drop)]
-pub(crate) struct Span {
+/// `start;end;fixed;trigger_id;duration;author;text`. The start and the end are seconds counted
+/// from the beginning of 1970, the duration is in seconds.
+#[derive(Drop)]
+pub(crate) struct DowntimeFields {
     pub(crate) start: u64,
     pub(crate) end: u64,
     pub(crate) fixed: u64,
@@ -47,137 +42,104 @@ pub(crate) struct Span {
     pub(crate) text: Text,
 }
 
-impl Side {
-    /// The field behind the object that a command begins with.
-    pub(crate) fn behind_object(self) -> usize
-        ensures { result ≡ behind_object self }
+impl<'a> Fields<'a> {
+    /// Takes the fields that name a host or a service.
+    #[tactic(auto, unfolding(crate::specs::Forms::object_in))]
+    pub(crate) fn object(&mut self, kind: ObjectKind) -> Result<Object, FieldErr>
+        ensures value { Gives result (object_in kind self.old) }
+        ensures rest { OnOk result (self.new ≡ after_object kind self.old) }
     {
-        match self {
-            Side::Host => 2,
-            Side::Service => 3,
+        match kind {
+            ObjectKind::Host => Ok(Object::Host(self.host()?)),
+            ObjectKind::Service => Ok(Object::Service(self.service()?)),
         }
     }
 
-    /// The largest code of a check's result.
-    fn most_code(self) -> u64
-        ensures { result ≡ most_code self }
+    /// Takes the code of a check's result.
+    #[tactic(auto, unfolding(crate::specs::Forms::code_in))]
+    fn code(&mut self, kind: ObjectKind) -> Result<u64, FieldErr>
+        ensures value { Gives result (code_in kind self.old) }
+        ensures rest { OnOk result (self.new ≡ later self.old) }
     {
-        match self {
-            Side::Host => 2,
-            Side::Service => 3,
+        let code = self.number()?;
+        if code <= most_code(kind) {
+            Ok(code)
+        } else {
+            Err(FieldErr::Faulty)
         }
     }
-}
 
-/// The host or the service that a command begins with.
-#[tactic(auto, unfolding(crate::specs::Forms::object_at))]
-pub(crate) fn object_at(
-    alloc: Global,
-    names: &ObjectNames,
-    side: Side,
-    text: &str,
-) -> Result<Object, FieldErr>
-    ensures { Gives result (object_at names.now side text.now) }
-{
-    match side {
-        Side::Host => Ok(Object::Host(host_at(alloc, names, text, 1)?)),
-        Side::Service => Ok(Object::Service(service_at(alloc, names, text, 1)?)),
+    /// Takes a check's result, whose output is empty where it is missing.
+    #[tactic(auto, unfolding(crate::specs::Forms::check_result_in))]
+    pub(crate) fn check_result(&mut self, kind: ObjectKind) -> Result<CheckResultFields, FieldErr>
+        ensures { Gives result (check_result_in kind self.old) }
+    {
+        let code = self.code(kind)?;
+        let output = self.last_text_or_empty()?;
+        Ok(CheckResultFields { code, output })
+    }
+
+    /// Takes the fields of a comment.
+    #[tactic(auto, unfolding(crate::specs::Forms::comment_in))]
+    pub(crate) fn comment(&mut self) -> Result<CommentFields, FieldErr>
+        ensures { Gives result (comment_in self.old) }
+    {
+        let persistent = self.number()?;
+        let author = self.text()?;
+        let text = self.last_text()?;
+        Ok(CommentFields {
+            persistent,
+            author,
+            text,
+        })
+    }
+
+    /// Takes the fields of an acknowledgement.
+    #[tactic(auto, unfolding(crate::specs::Forms::acknowledgement_in))]
+    pub(crate) fn acknowledgement(&mut self) -> Result<AcknowledgementFields, FieldErr>
+        ensures { Gives result (acknowledgement_in self.old) }
+    {
+        let sticky = self.number()?;
+        let notify = self.number()?;
+        let comment = self.comment()?;
+        Ok(AcknowledgementFields {
+            sticky,
+            notify,
+            comment,
+        })
+    }
+
+    /// Takes the fields of a downtime.
+    #[tactic(auto, unfolding(crate::specs::Forms::downtime_in))]
+    pub(crate) fn downtime(&mut self) -> Result<DowntimeFields, FieldErr>
+        ensures { Gives result (downtime_in self.old) }
+    {
+        let start = self.second()?;
+        let end = self.second()?;
+        let fixed = self.number()?;
+        let trigger_id = self.number()?;
+        let duration = self.number()?;
+        let author = self.text()?;
+        let text = self.last_text()?;
+        Ok(DowntimeFields {
+            start,
+            end,
+            fixed,
+            trigger_id,
+            duration,
+            author,
+            text,
+        })
     }
 }
 
-/// The code of a check's result.
-#[tactic(auto, unfolding(crate::specs::Forms::code_at))]
-fn code_at(side: Side, text: &str) -> Result<u64, FieldErr>
-    ensures { Gives result (code_at side text.now) }
+/// The largest code of a check's result: 0 to 2 are a host's states, 0 to 3 a service's. A larger
+/// one is faulty.
+fn most_code(kind: ObjectKind) -> u64
+    ensures { result ≡ most_code kind }
 {
-    let code = number_at(text, side.behind_object())?;
-    if code <= side.most_code() {
-        Ok(code)
-    } else {
-        Err(FieldErr::Faulty)
+    match kind {
+        ObjectKind::Host => 2,
+        ObjectKind::Service => 3,
     }
-}
-
-/// The output of a check, empty where it is missing.
-fn output_at(alloc: Global, text: &str, place: usize) -> Result<Text, Memory>
-    ensures { IfOk result (λ output. output ≡ unwrap_or (from_field place text.now) []) }
-{
-    match from_field(text, place) {
-        Some(output) => Text::new(alloc, output),
-        None => Ok(Text::empty(alloc)),
-    }
-}
-
-/// A check's result, behind the object.
-#[tactic(auto, unfolding(crate::specs::Forms::check_result_at))]
-pub(crate) fn check_result_at(
-    alloc: Global,
-    side: Side,
-    text: &str,
-) -> Result<CheckResult, FieldErr>
-    ensures { Gives result (check_result_at side text.now) }
-{
-    let code = code_at(side, text)?;
-    let output = output_at(alloc, text, side.behind_object() + 1)?;
-    Ok(CheckResult { code, output })
-}
-
-/// The last three fields of a comment or an acknowledgement.
-#[tactic(auto, unfolding(crate::specs::Forms::remark_at))]
-pub(crate) fn remark_at(alloc: Global, text: &str, place: usize) -> Result<Remark, FieldErr>
-    requires { place < 2 ^ 32 }
-    ensures { Gives result (remark_at place text.now) }
-{
-    let persistent = number_at(text, place)?;
-    let author = text_at(alloc, text, place + 1)?;
-    let text = last_text_at(alloc, text, place + 2)?;
-    Ok(Remark {
-        persistent,
-        author,
-        text,
-    })
-}
-
-/// The fields of an acknowledgement, behind the object.
-#[tactic(auto, unfolding(crate::specs::Forms::acknowledgement_at))]
-pub(crate) fn acknowledgement_at(
-    alloc: Global,
-    text: &str,
-    place: usize,
-) -> Result<Acknowledgement, FieldErr>
-    requires { place < 2 ^ 31 }
-    ensures { Gives result (acknowledgement_at place text.now) }
-{
-    let sticky = number_at(text, place)?;
-    let notify = number_at(text, place + 1)?;
-    let remark = remark_at(alloc, text, place + 2)?;
-    Ok(Acknowledgement {
-        sticky,
-        notify,
-        remark,
-    })
-}
-
-/// The fields of a downtime, behind the object.
-#[tactic(auto, unfolding(crate::specs::Forms::span_at))]
-pub(crate) fn span_at(alloc: Global, text: &str, place: usize) -> Result<Span, FieldErr>
-    requires { place < 2 ^ 32 }
-    ensures { Gives result (span_at place text.now) }
-{
-    let start = second_at(text, place)?;
-    let end = second_at(text, place + 1)?;
-    let fixed = number_at(text, place + 2)?;
-    let trigger_id = number_at(text, place + 3)?;
-    let duration = number_at(text, place + 4)?;
-    let author = text_at(alloc, text, place + 5)?;
-    let text = last_text_at(alloc, text, place + 6)?;
-    Ok(Span {
-        start,
-        end,
-        fixed,
-        trigger_id,
-        duration,
-        author,
-        text,
-    })
 }

@@ -1,14 +1,12 @@
-//! External commands: a line `[seconds] WORD;field;field...` becomes an order, which has its second, its
-//! text and what the command does. Hosts and services are found by their names.
+//! External commands: a line `[seconds] WORD;field;field...` becomes an order, which has its
+//! second, its text and what the command does. Hosts and services are found by their names.
 #![tactic(auto)]
 
+mod command;
 mod field;
 mod form;
 mod object_names;
 mod order;
-#[cfg(test)]
-mod tests;
-mod verb;
 
 pub use object_names::ObjectNames;
 pub use order::{CommandErr, Order, read_command};

@@ -1,9 +1,8 @@
 ghost use Rattle.std.specs.Prelude.{◌≡◌, ◌≢◌, [], map, IfOk, false};
 ghost use Rattle.std.specs.List.{AllPairs};
-ghost use Rattle.std.specs.Option.{option_map};
-ghost use Rattle.lq_names.specs.Names.{is_same, place_of};
+ghost use Rattle.lq_names.specs.Names.{is_same};
 ghost use Rattle.lq_records.specs.Sound.{IsSound};
-ghost use Rattle.lq_commands.specs.Names.{host_name, names_of, service_name};
+ghost use Rattle.lq_commands.specs.Names.{host_name, host_with, names_of, service_name, service_with};
 
 use lq_names::{Name, NameIndex};
 use lq_records::{Base, Host, HostId, Memory, Service, ServiceId, Text};
@@ -40,7 +39,7 @@ impl ObjectNames {
         ObjectNames { hosts, services }
     }
 
-    /// The names of a sound base's hosts and services. The only error is want of memory.
+    /// The names of a sound base's hosts and services. The only error is running out of memory.
     #[tactic(auto, using(crate::proofs::NameLemmas::hosts_differ, crate::proofs::NameLemmas::services_differ))]
     pub fn of(alloc: Global, base: &Base) -> Result<Self, Memory>
         requires { IsSound base.now }
@@ -53,22 +52,16 @@ impl ObjectNames {
 
     /// The host that has a name. None where no host has it.
     pub fn find_host(&self, name: &Name) -> Option<HostId>
-        ensures { result ≡ option_map (λ place. record { 0 = place }) (place_of self.now.hosts name.now) }
+        ensures { result ≡ host_with self.now name.now }
     {
-        match self.hosts.find(name) {
-            Some(place) => Some(HostId(place)),
-            None => None,
-        }
+        Some(HostId(self.hosts.find(name)?))
     }
 
     /// The service that has a name: its host's and its description. None where no service has it.
     pub fn find_service(&self, name: &Name) -> Option<ServiceId>
-        ensures { result ≡ option_map (λ place. record { 0 = place }) (place_of self.now.services name.now) }
+        ensures { result ≡ service_with self.now name.now }
     {
-        match self.services.find(name) {
-            Some(place) => Some(ServiceId(place)),
-            None => None,
-        }
+        Some(ServiceId(self.services.find(name)?))
     }
 }
 

@@ -1,8 +1,8 @@
 -- What is to come of the downtimes lies ahead, through each change.
 use Rattle.std.proofs.Common.{◌≡◌, ℕ, ◌≤◌, ◌==◌, min, not, Bool, true, false, List, [], ◌∷◌, ◌++◌, map, filter, refl, arith, true≢false}
-use Rattle.lq_records.specs.declared.status.Downtime.{Downtime}
+use Rattle.lq_events.specs.declared.status.Downtime.{Downtime}
 use Rattle.lq_live.specs.Downtimes.{after, begun, stage_of, stages}
-use Rattle.lq_live.specs.Parts.{AllFrom, IsFrom, first_of, next_of}
+use Rattle.lq_live.specs.Kept.{AllFrom, IsFrom, first_of, next_of}
 use Rattle.lq_live.specs.declared.stage.Stage.{Stage}
 use Rattle.lq_live.specs.declared.event.Event.{Event}
 

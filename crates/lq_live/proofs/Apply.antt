@@ -1,17 +1,17 @@
 -- The edits of a step, as they are made and played.
 use Rattle.std.proofs.Common.{◌≡◌, ◌∙◌, ℕ, ◌≤◌, List, [], ◌∷◌, ◌++◌, refl, arith}
-use Rattle.lq_records.specs.declared.log_entry.LogEntry.{LogEntry}
-use Rattle.lq_records.specs.declared.status.Status.{Status}
-use Rattle.lq_records.specs.declared.status.Object.{Object}
-use Rattle.lq_records.specs.declared.status.Object.TheVariants as object
-use Rattle.lq_records.specs.declared.update.Update.{Update}
+use Rattle.lq_events.specs.declared.log_entry.LogEntry.{LogEntry}
+use Rattle.lq_events.specs.declared.status.Status.{Status}
+use Rattle.lq_records.specs.declared.object.Object.{Object}
+use Rattle.lq_records.specs.declared.object.Object.TheVariants as object
+use Rattle.lq_events.specs.declared.update.Update.{Update}
 use Rattle.lq_log.specs.Book.{last_time}
 use Rattle.lq_live.specs.State.{State, with_status}
 use Rattle.lq_live.specs.Edits.{acknowledged_as, edited, played}
-use Rattle.lq_live.specs.Moved.{step_edits}
-use Rattle.lq_live.specs.Parts.{HasRoom, IsKept, Timely}
+use Rattle.lq_live.specs.StepEdits.{step_edits}
+use Rattle.lq_live.specs.Kept.{HasRoom, IsKept, Timely}
 use Rattle.lq_live.specs.Step.{step}
-use Rattle.lq_live.specs.declared.parts.Parts.{Parts}
+use Rattle.lq_live.specs.declared.live_state.LiveState.{LiveState}
 use Rattle.lq_live.specs.declared.edit.Edit.{Edit}
 use Rattle.lq_live.specs.declared.edit.Edit.TheVariants as edit
 use Rattle.lq_live.proofs.Kept.{step_timely}
@@ -35,8 +35,8 @@ timely_next (edit.SetAcknowledgement object kind) rest s timely = timely_status 
 timely_next (edit.SetNotifications object on) rest s timely = timely_status (λ status. record status { notifications_enabled = on }) object rest s timely
 timely_next _ rest s timely = timely
 
-pub room_less : (parts : Parts) (more less : ℕ) → less ≤ more → HasRoom parts more → HasRoom parts less
-room_less parts more less low room = record {
+pub room_less : (live : LiveState) (more less : ℕ) → less ≤ more → HasRoom live more → HasRoom live less
+room_less live more less low room = record {
   lines = omega (arith, low, room.lines);
   comments = omega (arith, low, room.comments);
   downtimes = omega (arith, low, room.downtimes);

@@ -4,7 +4,7 @@ use Rattle.std.proofs.lemmas.Bool.{false≢true}
 use Rattle.std.proofs.lemmas.Bool.Decides.{nat_tests}
 use Rattle.lq_live.specs.Downtimes.{due, end_of, goes_before, moments, only_if, ordered, placed, stage_begun, stages_after, stages_after_all, start_of}
 use Rattle.lq_live.specs.Order.{AllCovered, HasEvent, IsCovered}
-use Rattle.lq_live.specs.Parts.{AllFrom}
+use Rattle.lq_live.specs.Kept.{AllFrom}
 use Rattle.lq_live.specs.declared.stage.Stage.{Stage}
 use Rattle.lq_live.specs.declared.event.Event.{Event}
 

@@ -4,26 +4,29 @@ use Rattle.std.proofs.lemmas.Bool.{false≢true}
 use Rattle.std.proofs.lemmas.Bool.Decides.{nat_tests}
 use Rattle.std.specs.List.{find}
 use Rattle.lq_records.specs.declared.base.Base.{Base}
-use Rattle.lq_records.specs.declared.log_entry.LogEntry.{LogEntry}
-use Rattle.lq_records.specs.declared.status.Status.{Status}
-use Rattle.lq_records.specs.declared.status.Object.{Object}
-use Rattle.lq_records.specs.declared.status.Object.TheVariants as object
-use Rattle.lq_records.specs.declared.update.Act.{Act}
-use Rattle.lq_records.specs.declared.update.Act.TheVariants as act
+use Rattle.lq_events.specs.declared.log_entry.LogEntry.{LogEntry}
+use Rattle.lq_events.specs.declared.status.Status.{Status}
+use Rattle.lq_records.specs.declared.object.Object.{Object}
+use Rattle.lq_records.specs.declared.object.Object.TheVariants as object
+use Rattle.lq_records.specs.declared.object.ObjectKind.{ObjectKind}
+use Rattle.lq_records.specs.declared.object.ObjectKind.TheVariants as object_kind
+use Rattle.lq_events.specs.declared.update.Act.{Act}
+use Rattle.lq_events.specs.declared.update.Act.TheVariants as act
 use Rattle.lq_log.specs.declared.book.TheConstants.{TIME_LIMIT}
 use Rattle.lq_live.specs.State.{LineNames, State, names_of, status_of}
 use Rattle.lq_live.specs.Downtimes.{depth, only_if}
 use Rattle.lq_live.specs.Edits.{is_named}
 use Rattle.lq_live.specs.Effects.{acknowledge_in, add_comment, add_downtime, alert_line, cancel_lines, check_result, comment_made, downtime_made, effect_at, holds, is_taken, remove_acknowledgement, remove_found, result_edits, result_of, schedule, set_notifications, start_lines}
 use Rattle.lq_live.specs.Order.{EditAt, EditsAt, IsNew, LinesAt, added, all_added}
-use Rattle.lq_live.specs.Parts.{Timely}
-use Rattle.lq_live.specs.Results.{differs, ends_acknowledgement, is_ok, most_code, recorded, tried_by}
+use Rattle.lq_live.specs.Kept.{Timely}
+use Rattle.lq_live.specs.Results.{differs, ends_acknowledgement, is_ok, most_code, recorded, check_attempt}
 use Rattle.lq_live.specs.declared.stage.Stage.{Stage}
-use Rattle.lq_live.specs.declared.checked.Tried.{Tried}
-use Rattle.lq_live.specs.declared.event.Turn.TheVariants as turn
+use Rattle.lq_live.specs.declared.check_result.CheckAttempt.{CheckAttempt}
+use Rattle.lq_live.specs.declared.event.DowntimeTransition.TheVariants as transition
+use Rattle.lq_live.specs.Edits.{user_comment}
 use Rattle.lq_live.specs.declared.edit.Edit.{Edit}
 use Rattle.lq_live.specs.declared.edit.Edit.TheVariants as edit
-use Rattle.lq_live.proofs.Rising.{turn_lines_at}
+use Rattle.lq_live.proofs.Rising.{transition_lines_at}
 
 -- an effect of a second that adds one thing at most
 pub record IsEffect (second : ℕ) (edits : List Edit) : Type 0 where
@@ -77,17 +80,17 @@ effect_unless second false edits is = is
 
 -- ---- the effects
 
-alert_time : (now : ℕ) (names : LineNames) (tried : Tried) (new : ℤ) (output : List ℕ) → (alert_line now names tried new output).time ≡ now
+alert_time : (now : ℕ) (names : LineNames) (attempt : CheckAttempt) (new : ℤ) (output : List ℕ) → (alert_line now names attempt new output).time ≡ now
 unfolding alert_line
-alert_time now names tried new output = refl
+alert_time now names attempt new output = refl
 
-result_effect : (now : ℕ) (object : Object) (names : LineNames) (tried : Tried) (new : ℤ) (output : List ℕ) (old : Status)
-    → IsEffect now (result_edits now object names tried new output old)
-result_effect now object names tried new output old =
-    before_effect now (only_if (differs tried new old) (edit.Line (alert_line now names tried new output))) _
-    (only_if_at now (differs tried new old) (edit.Line (alert_line now names tried new output)) (alert_time now names tried new output))
-    (only_if_none (differs tried new old) (edit.Line (alert_line now names tried new output)) refl)
-    (before_effect now (only_if (ends_acknowledgement new old) (edit.EndAcknowledgement object)) (edit.SetStatus object (recorded now tried new output old) ∷ [])
+result_effect : (now : ℕ) (object : Object) (names : LineNames) (attempt : CheckAttempt) (new : ℤ) (output : List ℕ) (old : Status)
+    → IsEffect now (result_edits now object names attempt new output old)
+result_effect now object names attempt new output old =
+    before_effect now (only_if (differs attempt new old) (edit.Line (alert_line now names attempt new output))) _
+    (only_if_at now (differs attempt new old) (edit.Line (alert_line now names attempt new output)) (alert_time now names attempt new output))
+    (only_if_none (differs attempt new old) (edit.Line (alert_line now names attempt new output)) refl)
+    (before_effect now (only_if (ends_acknowledgement new old) (edit.EndAcknowledgement object)) (edit.SetStatus object (recorded now attempt new output old) ∷ [])
     (only_if_at now (ends_acknowledgement new old) (edit.EndAcknowledgement object) tt)
     (only_if_none (ends_acknowledgement new old) (edit.EndAcknowledgement object) refl)
     (record { at = (tt, tt); one = omega arith }))
@@ -96,7 +99,7 @@ result_of_effect : (now : ℕ) (base : Base) (object : Object) (new : ℤ) (outp
     → IsEffect now (result_of now base object new output names old)
 result_of_effect now base object new output None old = nothing now
 result_of_effect now base object new output (Some names) None = nothing now
-result_of_effect now base object new output (Some names) (Some old) = result_effect now object names (tried_by base object new old) new output old
+result_of_effect now base object new output (Some names) (Some old) = result_effect now object names (check_attempt base object new old) new output old
 
 check_effect : (object : Object) (code : ℕ) (output : List ℕ) (s : State) → IsEffect s.now (check_result object code output s)
 check_effect object code output s =
@@ -105,7 +108,7 @@ check_effect object code output s =
 
 comment_effect : (object : Object) (persistent : ℕ) (author text : List ℕ) (s : State) → IsEffect s.now (add_comment object persistent author text s)
 comment_effect object persistent author text s =
-    only_if_effect s.now (holds s.base object) (edit.AddComment (comment_made 1 object persistent author text s)) tt (omega arith)
+    only_if_effect s.now (holds s.base object) (edit.AddComment (comment_made user_comment object persistent author text s)) tt (omega arith)
 
 acknowledge_in_effect : (old : Option Status) (object : Object) (sticky persistent : ℕ) (author text : List ℕ) (s : State)
     → IsEffect s.now (acknowledge_in old object sticky persistent author text s)
@@ -123,10 +126,10 @@ lines_if second true entries all = all
 lines_if second false entries all = tt
 
 start_at : (ds : List Stage) (object : Object) (start : ℕ) (s : State) → LinesAt s.now (start_lines ds object start s)
-start_at ds object start s = lines_if s.now (nat_le start s.now) _ (turn_lines_at s.base s.now turn.Started object (depth object ds) (depth object ds + 1))
+start_at ds object start s = lines_if s.now (nat_le start s.now) _ (transition_lines_at s.base s.now transition.Started object (depth object ds) (depth object ds + 1))
 
 cancel_at : (ds : List Stage) (stage : Stage) (s : State) → LinesAt s.now (cancel_lines ds stage s)
-cancel_at ds stage s = lines_if s.now stage.active _ (turn_lines_at s.base s.now turn.Cancelled stage.object (depth stage.object ds) (depth stage.object ds - 1))
+cancel_at ds stage s = lines_if s.now stage.active _ (transition_lines_at s.base s.now transition.Cancelled stage.object (depth stage.object ds) (depth stage.object ds - 1))
 
 taken_end : (now start end fixed trigger : ℕ) → is_taken now start end fixed trigger ≡ true → (start < end) × (now + 1 ≤ end)
 taken_end now start end fixed trigger is = (grind (arith, nat_tests, is), grind (arith, nat_tests, is))
@@ -157,10 +160,10 @@ schedule_effect ds object start end fixed trigger duration author text s =
       one = omega arith;
     }))
 
-remove_found_effect : (found : Option Stage) (ds : List Stage) (of_service : Bool) (id : ℕ) (s : State) → IsEffect s.now (remove_found found ds of_service id s)
-remove_found_effect None ds of_service id s = nothing s.now
-remove_found_effect (Some stage) ds of_service id s =
-    before_effect s.now (map edit.Line (cancel_lines ds stage s)) (edit.RemoveDowntime of_service id ∷ [])
+remove_found_effect : (found : Option Stage) (ds : List Stage) (kind : ObjectKind) (id : ℕ) (s : State) → IsEffect s.now (remove_found found ds kind id s)
+remove_found_effect None ds kind id s = nothing s.now
+remove_found_effect (Some stage) ds kind id s =
+    before_effect s.now (map edit.Line (cancel_lines ds stage s)) (edit.RemoveDowntime kind id ∷ [])
     (lines_edits_at s.now (cancel_lines ds stage s) (cancel_at ds stage s)) (lines_none (cancel_lines ds stage s))
     (record { at = (tt, tt); one = omega arith })
 
@@ -172,8 +175,8 @@ effect_is ds (act.ProcessHostCheckResult host code output) s = check_effect (obj
 effect_is ds (act.ProcessServiceCheckResult service code output) s = check_effect (object.Service service) code output s
 effect_is ds (act.AddHostComment host persistent author text) s = comment_effect (object.Host host) persistent author text s
 effect_is ds (act.AddSvcComment service persistent author text) s = comment_effect (object.Service service) persistent author text s
-effect_is ds (act.DelHostComment id) s = one_edit s.now (edit.RemoveComment false id) tt (omega arith)
-effect_is ds (act.DelSvcComment id) s = one_edit s.now (edit.RemoveComment true id) tt (omega arith)
+effect_is ds (act.DelHostComment id) s = one_edit s.now (edit.RemoveComment object_kind.Host id) tt (omega arith)
+effect_is ds (act.DelSvcComment id) s = one_edit s.now (edit.RemoveComment object_kind.Service id) tt (omega arith)
 effect_is ds (act.AcknowledgeHostProblem host sticky notify persistent author text) s =
     acknowledge_in_effect (status_of s (object.Host host)) (object.Host host) sticky persistent author text s
 effect_is ds (act.AcknowledgeSvcProblem service sticky notify persistent author text) s =
@@ -182,8 +185,8 @@ effect_is ds (act.RemoveHostAcknowledgement host) s = remove_acknowledgement_eff
 effect_is ds (act.RemoveSvcAcknowledgement service) s = remove_acknowledgement_effect (object.Service service) s
 effect_is ds (act.ScheduleHostDowntime host start end fixed trigger duration author text) s = schedule_effect ds (object.Host host) start end fixed trigger duration author text s
 effect_is ds (act.ScheduleSvcDowntime service start end fixed trigger duration author text) s = schedule_effect ds (object.Service service) start end fixed trigger duration author text s
-effect_is ds (act.DelHostDowntime id) s = remove_found_effect (find (λ stage. is_named false id stage.id stage.object) ds) ds false id s
-effect_is ds (act.DelSvcDowntime id) s = remove_found_effect (find (λ stage. is_named true id stage.id stage.object) ds) ds true id s
+effect_is ds (act.DelHostDowntime id) s = remove_found_effect (find (λ stage. is_named object_kind.Host id stage.id stage.object) ds) ds object_kind.Host id s
+effect_is ds (act.DelSvcDowntime id) s = remove_found_effect (find (λ stage. is_named object_kind.Service id stage.id stage.object) ds) ds object_kind.Service id s
 effect_is ds (act.EnableHostNotifications host) s = set_notifications_effect (object.Host host) 1 s
 effect_is ds (act.DisableHostNotifications host) s = set_notifications_effect (object.Host host) 0 s
 effect_is ds (act.EnableSvcNotifications service) s = set_notifications_effect (object.Service service) 1 s

@@ -2,23 +2,26 @@
 use Rattle.std.proofs.Common.{◌≡◌, ℕ, ℤ, pos, ◌+◌, ◌<◌, ◌≤◌, ◌==◌, ◌&&◌, not, max, nat_le, Bool, true, false, Option, Some, None, List, [], ◌∷◌, ◌++◌, map, filter, refl, arith, if◌then◌else◌}
 use Rattle.std.specs.List.{find}
 use Rattle.lq_records.specs.declared.base.Base.{Base}
-use Rattle.lq_records.specs.declared.log_entry.LogEntry.{LogEntry}
-use Rattle.lq_records.specs.declared.status.Downtime.{Downtime}
-use Rattle.lq_records.specs.declared.status.Object.{Object}
-use Rattle.lq_records.specs.declared.status.Object.TheVariants as object
-use Rattle.lq_records.specs.declared.status.Status.{Status}
-use Rattle.lq_records.specs.declared.update.Act.{Act}
-use Rattle.lq_records.specs.declared.update.Act.TheVariants as act
-use Rattle.lq_records.specs.declared.update.Update.{Update}
+use Rattle.lq_events.specs.declared.log_entry.LogEntry.{LogEntry}
+use Rattle.lq_events.specs.declared.status.Downtime.{Downtime}
+use Rattle.lq_records.specs.declared.object.Object.{Object}
+use Rattle.lq_records.specs.declared.object.Object.TheVariants as object
+use Rattle.lq_records.specs.declared.object.ObjectKind.{ObjectKind}
+use Rattle.lq_records.specs.declared.object.ObjectKind.TheVariants as object_kind
+use Rattle.lq_events.specs.declared.status.Status.{Status}
+use Rattle.lq_events.specs.declared.update.Act.{Act}
+use Rattle.lq_events.specs.declared.update.Act.TheVariants as act
+use Rattle.lq_events.specs.declared.update.Update.{Update}
 use Rattle.lq_live.specs.State.{LineNames, State, names_of, status_of, with_status}
 use Rattle.lq_live.specs.Downtimes.{after, all_after, begun, due, only_if, stages}
 use Rattle.lq_live.specs.Edits.{acknowledged_as, edited, goes_with_acknowledgement, is_named, played}
 use Rattle.lq_live.specs.Effects.{acknowledge_in, add_comment, alert_line, cancel_lines, check_result, comment_made, downtime_made, effect, effect_at, holds, is_taken, remove_acknowledgement, remove_found, result_of, schedule, set_notifications, start_lines}
 use Rattle.lq_live.specs.Ids.{HasRisingIds, IdsRise, comment_id, downtime_id}
 use Rattle.lq_live.specs.Order.{EditAt, EditsAt, added, all_added}
-use Rattle.lq_live.specs.Results.{differs, ends_acknowledgement, is_ok, most_code, tried_by}
+use Rattle.lq_live.specs.Results.{differs, ends_acknowledgement, is_ok, most_code, check_attempt}
 use Rattle.lq_live.specs.Step.{ready, second_of, step}
-use Rattle.lq_live.specs.declared.checked.Tried.{Tried}
+use Rattle.lq_live.specs.declared.check_result.CheckAttempt.{CheckAttempt}
+use Rattle.lq_live.specs.Edits.{user_comment}
 use Rattle.lq_live.specs.declared.edit.Edit.{Edit}
 use Rattle.lq_live.specs.declared.edit.Edit.TheVariants as edit
 use Rattle.lq_live.specs.declared.event.Event.{Event}
@@ -96,16 +99,16 @@ ids_edited second (edit.AddComment comment) s at gives has = record {
   downtimes = has.downtimes;
   comments = added_rise comment_id 0 s.next_comment comment s.comments (omega arith) gives has.comments;
 }
-ids_edited second (edit.RemoveComment of_service id) s at gives has = record {
+ids_edited second (edit.RemoveComment kind id) s at gives has = record {
   downtimes = has.downtimes;
-  comments = filter_rise comment_id (λ comment. not (is_named of_service id comment.id comment.object)) 0 s.next_comment s.comments has.comments;
+  comments = filter_rise comment_id (λ comment. not (is_named kind id comment.id comment.object)) 0 s.next_comment s.comments has.comments;
 }
 ids_edited second (edit.AddDowntime downtime) s at gives has = record {
   downtimes = added_rise downtime_id 0 s.next_downtime downtime s.downtimes (omega arith) gives has.downtimes;
   comments = has.comments;
 }
-ids_edited second (edit.RemoveDowntime of_service id) s at gives has = record {
-  downtimes = filter_rise downtime_id (λ downtime. not (is_named of_service id downtime.id downtime.object)) 0 s.next_downtime s.downtimes has.downtimes;
+ids_edited second (edit.RemoveDowntime kind id) s at gives has = record {
+  downtimes = filter_rise downtime_id (λ downtime. not (is_named kind id downtime.id downtime.object)) 0 s.next_downtime s.downtimes has.downtimes;
   comments = has.comments;
 }
 ids_edited second (edit.NotifyAtAll on) s at gives has = record { downtimes = has.downtimes; comments = has.comments }
@@ -164,9 +167,9 @@ result_given : (s : State) (base : Base) (object : Object) (new : ℤ) (output :
 result_given s base object new output None old = tt
 result_given s base object new output (Some names) None = tt
 result_given s base object new output (Some names) (Some old) =
-    let tried : Tried = tried_by base object new old in
-    given_append s.next_downtime s.next_comment (only_if (differs tried new old) (edit.Line (alert_line s.now names tried new output))) _
-    (given_only_if s.next_downtime s.next_comment (differs tried new old) (edit.Line (alert_line s.now names tried new output)) tt)
+    let attempt : CheckAttempt = check_attempt base object new old in
+    given_append s.next_downtime s.next_comment (only_if (differs attempt new old) (edit.Line (alert_line s.now names attempt new output))) _
+    (given_only_if s.next_downtime s.next_comment (differs attempt new old) (edit.Line (alert_line s.now names attempt new output)) tt)
     (given_append s.next_downtime s.next_comment (only_if (ends_acknowledgement new old) (edit.EndAcknowledgement object)) _
     (given_only_if s.next_downtime s.next_comment (ends_acknowledgement new old) (edit.EndAcknowledgement object) tt) (tt, tt))
 
@@ -177,7 +180,7 @@ check_given object code output s =
 
 comment_given : (object : Object) (persistent : ℕ) (author text : List ℕ) (s : State) → GiveIds s.next_downtime s.next_comment (add_comment object persistent author text s)
 comment_given object persistent author text s =
-    given_only_if s.next_downtime s.next_comment (holds s.base object) (edit.AddComment (comment_made 1 object persistent author text s)) refl
+    given_only_if s.next_downtime s.next_comment (holds s.base object) (edit.AddComment (comment_made user_comment object persistent author text s)) refl
 
 acknowledge_given : (old : Option Status) (object : Object) (sticky persistent : ℕ) (author text : List ℕ) (s : State)
     → GiveIds s.next_downtime s.next_comment (acknowledge_in old object sticky persistent author text s)
@@ -197,11 +200,11 @@ schedule_given ds object start end fixed trigger duration author text s =
     (given_append s.next_downtime s.next_comment (map edit.Line (start_lines ds object start s)) (edit.AddDowntime (downtime_made object start end duration author text s) ∷ [])
     (given_lines s.next_downtime s.next_comment (start_lines ds object start s)) (refl, tt))
 
-found_given : (found : Option Stage) (ds : List Stage) (of_service : Bool) (id : ℕ) (s : State)
-    → GiveIds s.next_downtime s.next_comment (remove_found found ds of_service id s)
-found_given None ds of_service id s = tt
-found_given (Some stage) ds of_service id s =
-    given_append s.next_downtime s.next_comment (map edit.Line (cancel_lines ds stage s)) (edit.RemoveDowntime of_service id ∷ [])
+found_given : (found : Option Stage) (ds : List Stage) (kind : ObjectKind) (id : ℕ) (s : State)
+    → GiveIds s.next_downtime s.next_comment (remove_found found ds kind id s)
+found_given None ds kind id s = tt
+found_given (Some stage) ds kind id s =
+    given_append s.next_downtime s.next_comment (map edit.Line (cancel_lines ds stage s)) (edit.RemoveDowntime kind id ∷ [])
     (given_lines s.next_downtime s.next_comment (cancel_lines ds stage s)) (tt, tt)
 
 effect_given : (ds : List Stage) (act : Act) (s : State) → GiveIds s.next_downtime s.next_comment (effect_at ds act s)
@@ -219,8 +222,8 @@ effect_given ds (act.RemoveHostAcknowledgement host) s = remove_given (object.Ho
 effect_given ds (act.RemoveSvcAcknowledgement service) s = remove_given (object.Service service) s
 effect_given ds (act.ScheduleHostDowntime host start end fixed trigger duration author text) s = schedule_given ds (object.Host host) start end fixed trigger duration author text s
 effect_given ds (act.ScheduleSvcDowntime service start end fixed trigger duration author text) s = schedule_given ds (object.Service service) start end fixed trigger duration author text s
-effect_given ds (act.DelHostDowntime id) s = found_given (find (λ stage. is_named false id stage.id stage.object) ds) ds false id s
-effect_given ds (act.DelSvcDowntime id) s = found_given (find (λ stage. is_named true id stage.id stage.object) ds) ds true id s
+effect_given ds (act.DelHostDowntime id) s = found_given (find (λ stage. is_named object_kind.Host id stage.id stage.object) ds) ds object_kind.Host id s
+effect_given ds (act.DelSvcDowntime id) s = found_given (find (λ stage. is_named object_kind.Service id stage.id stage.object) ds) ds object_kind.Service id s
 effect_given ds (act.EnableHostNotifications host) s = notifications_given (object.Host host) 1 s
 effect_given ds (act.DisableHostNotifications host) s = notifications_given (object.Host host) 0 s
 effect_given ds (act.EnableSvcNotifications service) s = notifications_given (object.Service service) 1 s

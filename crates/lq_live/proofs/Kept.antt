@@ -1,24 +1,24 @@
 -- What every state keeps, through a step.
 use Rattle.std.proofs.Common.{◌≡◌, ℕ, ◌+◌, ◌-◌, ◌<◌, ◌≤◌, ◌==◌, not, max, min, Bool, true, false, Option, Some, None, List, [], ◌∷◌, ◌++◌, length, map, filter, refl, arith, length-append}
 use Rattle.std.proofs.lemmas.List.{length-set}
-use Rattle.lq_records.specs.declared.log_entry.LogEntry.{LogEntry}
-use Rattle.lq_records.specs.declared.status.Downtime.{Downtime}
-use Rattle.lq_records.specs.declared.update.Update.{Update}
+use Rattle.lq_events.specs.declared.log_entry.LogEntry.{LogEntry}
+use Rattle.lq_events.specs.declared.status.Downtime.{Downtime}
+use Rattle.lq_events.specs.declared.update.Update.{Update}
 use Rattle.lq_log.specs.Book.{last_time}
 use Rattle.lq_log.specs.Written.{written}
 use Rattle.lq_log.specs.declared.book.TheConstants.{TIME_LIMIT}
 use Rattle.lq_log.specs.declared.written.Form.TheVariants as form
-use Rattle.lq_records.specs.declared.status.Status.{Status}
-use Rattle.lq_records.specs.declared.status.Object.{Object}
-use Rattle.lq_records.specs.declared.status.Object.TheVariants as object
+use Rattle.lq_events.specs.declared.status.Status.{Status}
+use Rattle.lq_records.specs.declared.object.Object.{Object}
+use Rattle.lq_records.specs.declared.object.Object.TheVariants as object
 use Rattle.std.specs.List.{slice_get}
 use Rattle.lq_live.specs.State.{State, changed_at, with_status}
 use Rattle.lq_live.specs.Downtimes.{after, all_after, begun, due, stages, stages_after_all}
 use Rattle.lq_live.specs.Edits.{acknowledged_as, edited, is_named, played}
 use Rattle.lq_live.specs.Effects.{effect, effect_at}
-use Rattle.lq_live.specs.Moved.{advance_edits, at_second, due_edits, stages_at, step_edits}
+use Rattle.lq_live.specs.StepEdits.{advance_edits, due_edits, stages_at, step_edits}
 use Rattle.lq_live.specs.Order.{EditAt, EditsAt, LinesUpTo, Rising, added, all_added}
-use Rattle.lq_live.specs.Parts.{AllFrom, AllOrdered, IsKept, Timely}
+use Rattle.lq_live.specs.Kept.{at_second, AllFrom, AllOrdered, IsKept, Timely}
 use Rattle.lq_live.specs.Step.{due_lines, ready, second_of, step}
 use Rattle.lq_live.specs.declared.stage.Stage.{Stage}
 use Rattle.lq_live.specs.declared.event.Event.{Event}
@@ -147,8 +147,8 @@ of_edited second count least (edit.AddComment comment) s at of = record {
   comment_ids = omega (arith, of.comment_ids);
   longer = of.longer;
 }
-of_edited second count least (edit.RemoveComment of_service id) s at of =
-    same_fields second count least s (edited (edit.RemoveComment of_service id) s) refl refl refl refl refl refl refl refl of
+of_edited second count least (edit.RemoveComment kind id) s at of =
+    same_fields second count least s (edited (edit.RemoveComment kind id) s) refl refl refl refl refl refl refl refl of
 of_edited second count least (edit.AddDowntime downtime) s at of = record {
   hosts = of.hosts;
   services = of.services;
@@ -160,13 +160,13 @@ of_edited second count least (edit.AddDowntime downtime) s at of = record {
   comment_ids = omega (arith, of.comment_ids);
   longer = of.longer;
 }
-of_edited second count least (edit.RemoveDowntime of_service id) s at of = record {
+of_edited second count least (edit.RemoveDowntime kind id) s at of = record {
   hosts = of.hosts;
   services = of.services;
   now = of.now;
   lines = of.lines;
-  ahead = filter_from (second + 1) (λ downtime. not (is_named of_service id downtime.id downtime.object)) s.downtimes of.ahead;
-  order = ordered_filter (λ downtime. not (is_named of_service id downtime.id downtime.object)) s.downtimes of.order;
+  ahead = filter_from (second + 1) (λ downtime. not (is_named kind id downtime.id downtime.object)) s.downtimes of.ahead;
+  order = ordered_filter (λ downtime. not (is_named kind id downtime.id downtime.object)) s.downtimes of.order;
   downtime_ids = omega (arith, of.downtime_ids);
   comment_ids = omega (arith, of.comment_ids);
   longer = of.longer;

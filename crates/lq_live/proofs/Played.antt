@@ -1,21 +1,24 @@
 -- The edits of a step, played, are the step.
 use Rattle.std.proofs.Common.{◌≡◌, ℕ, ◌==◌, not, max, Bool, true, false, Option, Some, None, List, [], ◌∷◌, ◌++◌, map, filter, refl, sym, ap, ◌∙◌, append-nil, append_assoc}
-use Rattle.lq_records.specs.declared.log_entry.LogEntry.{LogEntry}
-use Rattle.lq_records.specs.declared.status.Downtime.{Downtime}
-use Rattle.lq_records.specs.declared.update.Act.{Act}
-use Rattle.lq_records.specs.declared.update.Act.TheVariants as act
-use Rattle.lq_records.specs.declared.update.Update.{Update}
+use Rattle.lq_events.specs.declared.log_entry.LogEntry.{LogEntry}
+use Rattle.lq_events.specs.declared.status.Downtime.{Downtime}
+use Rattle.lq_events.specs.declared.update.Act.{Act}
+use Rattle.lq_events.specs.declared.update.Act.TheVariants as act
+use Rattle.lq_events.specs.declared.update.Update.{Update}
 use Rattle.lq_log.specs.Written.{written}
 use Rattle.lq_log.specs.declared.written.Form.TheVariants as form
-use Rattle.lq_records.specs.declared.status.Status.{Status}
-use Rattle.lq_records.specs.declared.status.Object.{Object}
-use Rattle.lq_records.specs.declared.status.Object.TheVariants as object
+use Rattle.lq_events.specs.declared.status.Status.{Status}
+use Rattle.lq_records.specs.declared.object.Object.{Object}
+use Rattle.lq_records.specs.declared.object.Object.TheVariants as object
+use Rattle.lq_records.specs.declared.object.ObjectKind.{ObjectKind}
+use Rattle.lq_records.specs.declared.object.ObjectKind.TheVariants as object_kind
 use Rattle.std.specs.List.{find}
 use Rattle.lq_live.specs.State.{State, status_of}
 use Rattle.lq_live.specs.Downtimes.{after, all_after, begun, due, stage_begun, stage_of, stages, stages_after, stages_after_all}
 use Rattle.lq_live.specs.Edits.{edited, is_named, played}
 use Rattle.lq_live.specs.Effects.{acknowledge_in, effect_at, remove_found}
-use Rattle.lq_live.specs.Moved.{at_second, advance_edits, due_edits, edits_at, event_edits, stages_at, step_edits}
+use Rattle.lq_live.specs.Kept.{at_second}
+use Rattle.lq_live.specs.StepEdits.{advance_edits, due_edits, edits_at, event_edits, stages_at, step_edits}
 use Rattle.lq_live.specs.Step.{due_lines, event_lines, ready, second_of, step}
 use Rattle.lq_live.specs.declared.stage.Stage.{Stage}
 use Rattle.lq_live.specs.declared.event.Event.{Event}
@@ -88,10 +91,10 @@ acknowledge_same : (old : Option Status) (object : Object) (sticky persistent : 
 acknowledge_same None object sticky persistent author text s downtimes log = refl
 acknowledge_same (Some old) object sticky persistent author text s downtimes log = refl
 
-remove_same : (found : Option Stage) (ds : List Stage) (of_service : Bool) (id : ℕ) (s : State) (downtimes : List Downtime) (log : List LogEntry)
-    → remove_found found ds of_service id s ≡ remove_found found ds of_service id (record s { downtimes = downtimes; log = log })
-remove_same None ds of_service id s downtimes log = refl
-remove_same (Some stage) ds of_service id s downtimes log = refl
+remove_same : (found : Option Stage) (ds : List Stage) (kind : ObjectKind) (id : ℕ) (s : State) (downtimes : List Downtime) (log : List LogEntry)
+    → remove_found found ds kind id s ≡ remove_found found ds kind id (record s { downtimes = downtimes; log = log })
+remove_same None ds kind id s downtimes log = refl
+remove_same (Some stage) ds kind id s downtimes log = refl
 
 -- an effect looks at the log and at the downtimes through their stages alone
 effect_same : (ds : List Stage) (act : Act) (s : State) (downtimes : List Downtime) (log : List LogEntry)
@@ -101,8 +104,8 @@ effect_same ds (act.AcknowledgeHostProblem host sticky notify persistent author 
     acknowledge_same (status_of s (object.Host host)) (object.Host host) sticky persistent author text s downtimes log
 effect_same ds (act.AcknowledgeSvcProblem service sticky notify persistent author text) s downtimes log =
     acknowledge_same (status_of s (object.Service service)) (object.Service service) sticky persistent author text s downtimes log
-effect_same ds (act.DelHostDowntime id) s downtimes log = remove_same (find (λ stage. is_named false id stage.id stage.object) ds) ds false id s downtimes log
-effect_same ds (act.DelSvcDowntime id) s downtimes log = remove_same (find (λ stage. is_named true id stage.id stage.object) ds) ds true id s downtimes log
+effect_same ds (act.DelHostDowntime id) s downtimes log = remove_same (find (λ stage. is_named object_kind.Host id stage.id stage.object) ds) ds object_kind.Host id s downtimes log
+effect_same ds (act.DelSvcDowntime id) s downtimes log = remove_same (find (λ stage. is_named object_kind.Service id stage.id stage.object) ds) ds object_kind.Service id s downtimes log
 effect_same ds _ s downtimes log = refl
 
 edits_played : (s : State) (update : Update) → played (edits_at (max s.now (second_of update)) s update) s ≡ step s update

@@ -3,8 +3,8 @@ use Rattle.std.proofs.Common.{◌≡◌, ℕ, ◌<◌, ◌≤◌, ◌&&◌, nat_
 use Rattle.std.proofs.lemmas.Bool.Decides.{nat_tests}
 use Rattle.lq_records.specs.declared.base.Base.{Base}
 use Rattle.lq_live.specs.Downtimes.{moments, due}
-use Rattle.lq_live.specs.Moved.{advance_edits}
-use Rattle.lq_live.specs.Parts.{AllFrom, IsFrom}
+use Rattle.lq_live.specs.StepEdits.{advance_edits}
+use Rattle.lq_live.specs.Kept.{AllFrom, IsFrom}
 use Rattle.lq_live.specs.declared.stage.Stage.{Stage}
 
 no_end : (second m : ℕ) (stage : Stage) → second < m → IsFrom m stage → nat_le stage.end second ≡ false

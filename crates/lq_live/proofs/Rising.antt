@@ -3,19 +3,19 @@ use Rattle.std.proofs.Common.{◌≡◌, ℕ, ◌+◌, ◌<◌, ◌≤◌, ◌&&
 use Rattle.std.proofs.lemmas.Bool.{false≢true}
 use Rattle.std.proofs.lemmas.Bool.Decides.{nat_tests}
 use Rattle.lq_records.specs.declared.base.Base.{Base}
-use Rattle.lq_records.specs.declared.log_entry.LogEntry.{LogEntry}
-use Rattle.lq_records.specs.declared.status.Object.{Object}
+use Rattle.lq_events.specs.declared.log_entry.LogEntry.{LogEntry}
+use Rattle.lq_records.specs.declared.object.Object.{Object}
 use Rattle.lq_log.specs.declared.book.TheConstants.{TIME_LIMIT}
 use Rattle.lq_live.specs.State.{LineNames, names_of}
 use Rattle.lq_live.specs.Downtimes.{due, end_of, goes_before, moments, only_if, ordered, placed, stages_after, start_of}
-use Rattle.lq_live.specs.Effects.{crosses, downtime_line, turn_line, turn_lines}
-use Rattle.lq_live.specs.Moved.{due_edits}
+use Rattle.lq_live.specs.Effects.{crosses, downtime_line, transition_line, transition_lines}
+use Rattle.lq_live.specs.StepEdits.{due_edits}
 use Rattle.lq_live.specs.Order.{LinesAt, LinesUpTo, Rising, Within}
-use Rattle.lq_live.specs.Parts.{AllFrom, IsFrom, Timely}
-use Rattle.lq_live.specs.Step.{due_lines, event_lines, turn_of}
+use Rattle.lq_live.specs.Kept.{AllFrom, IsFrom, Timely}
+use Rattle.lq_live.specs.Step.{due_lines, event_lines, transition_of}
 use Rattle.lq_live.specs.declared.stage.Stage.{Stage}
 use Rattle.lq_live.specs.declared.event.Event.{Event}
-use Rattle.lq_live.specs.declared.event.Turn.{Turn}
+use Rattle.lq_live.specs.declared.event.DowntimeTransition.{DowntimeTransition}
 use Rattle.lq_live.specs.declared.edit.Edit.{Edit}
 use Rattle.lq_live.specs.declared.edit.Edit.TheVariants as edit
 
@@ -77,17 +77,17 @@ due_rising low high ds all = ordered_rising low high (flat_map (moments high) ds
 
 -- ---- their lines
 
-line_at : (moment : ℕ) (turn : Turn) (names : Option LineNames) → LinesAt moment (turn_line moment turn names)
+line_at : (moment : ℕ) (transition : DowntimeTransition) (names : Option LineNames) → LinesAt moment (transition_line moment transition names)
 unfolding downtime_line
-line_at moment turn None = tt
-line_at moment turn (Some names) = (refl, tt)
+line_at moment transition None = tt
+line_at moment transition (Some names) = (refl, tt)
 
-lines_at_if : (test : Bool) (moment : ℕ) (turn : Turn) (names : Option LineNames) → LinesAt moment (if test then turn_line moment turn names else [])
-lines_at_if true moment turn names = line_at moment turn names
-lines_at_if false moment turn names = tt
+lines_at_if : (test : Bool) (moment : ℕ) (transition : DowntimeTransition) (names : Option LineNames) → LinesAt moment (if test then transition_line moment transition names else [])
+lines_at_if true moment transition names = line_at moment transition names
+lines_at_if false moment transition names = tt
 
-pub turn_lines_at : (base : Base) (moment : ℕ) (turn : Turn) (object : Object) (before after : ℕ) → LinesAt moment (turn_lines base moment turn object before after)
-turn_lines_at base moment turn object before after = lines_at_if (crosses turn before after) moment turn (names_of base object)
+pub transition_lines_at : (base : Base) (moment : ℕ) (transition : DowntimeTransition) (object : Object) (before after : ℕ) → LinesAt moment (transition_lines base moment transition object before after)
+transition_lines_at base moment transition object before after = lines_at_if (crosses transition before after) moment transition (names_of base object)
 
 pub timely_later : (low high : ℕ) (edits : List Edit) → low ≤ high → Timely high edits → Timely low edits
 timely_later low high [] above timely = tt
@@ -110,7 +110,7 @@ due_timely low high base (event ∷ events) ds rest rising above below timely =
     let lines : List LogEntry = event_lines base event ds in
     rw (append_assoc (map edit.Line lines ++ edit.Moment event ∷ []) later rest, append_assoc (map edit.Line lines) (edit.Moment event ∷ []) (later ++ rest))
     (lines_timely low event.moment lines (edit.Moment event ∷ later ++ rest)
-    (turn_lines_at base event.moment (turn_of event) event.object _ _) rising.0 (omega (arith, rising.1, below)) behind)
+    (transition_lines_at base event.moment (transition_of event) event.object _ _) rising.0 (omega (arith, rising.1, below)) behind)
 
 -- no line of theirs is past the second
 up_to_append : (second : ℕ) (a b : List LogEntry) → LinesUpTo second a → LinesUpTo second b → LinesUpTo second (a ++ b)
@@ -125,5 +125,5 @@ pub due_lines_up_to : (low high : ℕ) (base : Base) (events : List Event) (ds :
 due_lines_up_to low high base [] ds rising = tt
 due_lines_up_to low high base (event ∷ events) ds rising =
     up_to_append high (event_lines base event ds) (due_lines base events (stages_after event ds))
-    (at_up_to high event.moment (event_lines base event ds) (turn_lines_at base event.moment (turn_of event) event.object _ _) rising.1)
+    (at_up_to high event.moment (event_lines base event ds) (transition_lines_at base event.moment (transition_of event) event.object _ _) rising.1)
     (due_lines_up_to event.moment high base events (stages_after event ds) rising.2)

@@ -1,8 +1,8 @@
 -- The moments at which downtimes begin and end.
 use Rattle.std.specs.Prelude.{ℕ, ◌==◌, ◌&&◌, ◌||◌, not, nat_le, nat_lt, Bool, true, false, List, [], ◌∷◌, ◌++◌, length, map, filter, flat_map, if◌then◌else◌}
-use Rattle.lq_records.specs.declared.status.Downtime.{Downtime}
-use Rattle.lq_records.specs.declared.status.Object.{Object}
-use Rattle.lq_live.specs.State.{is_same_object}
+use Rattle.lq_events.specs.declared.status.Downtime.{Downtime}
+use Rattle.lq_records.specs.declared.object.Object.{Object}
+use Rattle.lq_records.specs.Object.{is_same_object}
 use Rattle.lq_live.specs.declared.stage.Stage.{Stage}
 use Rattle.lq_live.specs.declared.event.Event.{Event}
 
@@ -11,7 +11,13 @@ only_if test item = if test then item ∷ [] else []
 
 -- a downtime without its texts
 abbrev pub stage_of : Downtime → Stage
-stage_of downtime = record { id = downtime.id; object = downtime.object; start = downtime.start; end = downtime.end; active = downtime.active }
+stage_of downtime = record {
+  id = downtime.id;
+  object = downtime.object;
+  start = downtime.start;
+  end = downtime.end;
+  active = downtime.active;
+}
 
 abbrev pub stages : List Downtime → List Stage
 stages downtimes = map stage_of downtimes
@@ -19,18 +25,22 @@ stages downtimes = map stage_of downtimes
 -- ---- what is due
 
 abbrev pub start_of : Stage → Event
-start_of stage = record { moment = stage.start; starts = true; id = stage.id; object = stage.object }
+start_of stage =
+    record { moment = stage.start; starts = true; id = stage.id; object = stage.object }
 
 abbrev pub end_of : Stage → Event
 end_of stage = record { moment = stage.end; starts = false; id = stage.id; object = stage.object }
 
 -- the start of a downtime that isn't active, and its end, as far as they are due at a second
 abbrev pub moments : ℕ → Stage → List Event
-moments second stage = only_if (not stage.active && nat_le stage.start second) (start_of stage) ++ only_if (nat_le stage.end second) (end_of stage)
+moments second stage =
+    only_if (not stage.active && nat_le stage.start second) (start_of stage)
+    ++ only_if (nat_le stage.end second) (end_of stage)
 
 -- ends before starts, then by id
 abbrev pub goes_before_at_once : Event → Event → Bool
-goes_before_at_once a b = if a.starts then b.starts && nat_lt a.id b.id else (b.starts || nat_lt a.id b.id)
+goes_before_at_once a b =
+    if a.starts then b.starts && nat_lt a.id b.id else (b.starts || nat_lt a.id b.id)
 
 -- by moment
 abbrev pub goes_before : Event → Event → Bool
@@ -39,7 +49,9 @@ goes_before a b = if a.moment == b.moment then goes_before_at_once a b else nat_
 -- an event among others that are in order
 abbrev pub placed : Event → List Event → List Event
 placed event [] = event ∷ []
-placed event (first ∷ events) = if goes_before event first then event ∷ first ∷ events else first ∷ placed event events
+placed event (first ∷ events) =
+    if goes_before event first then event ∷ first ∷ events
+    else first ∷ placed event events
 
 abbrev pub ordered : List Event → List Event
 ordered [] = []
@@ -56,7 +68,9 @@ begun id downtime = if downtime.id == id then record downtime { active = true } 
 
 -- a start makes its downtime active, an end removes it
 abbrev pub after : Event → List Downtime → List Downtime
-after event downtimes = if event.starts then map (begun event.id) downtimes else filter (λ downtime. not (downtime.id == event.id)) downtimes
+after event downtimes =
+    if event.starts then map (begun event.id) downtimes
+    else filter (λ downtime. not (downtime.id == event.id)) downtimes
 
 abbrev pub all_after : List Event → List Downtime → List Downtime
 all_after [] downtimes = downtimes
@@ -67,7 +81,9 @@ abbrev pub stage_begun : ℕ → Stage → Stage
 stage_begun id stage = if stage.id == id then record stage { active = true } else stage
 
 abbrev pub stages_after : Event → List Stage → List Stage
-stages_after event downtimes = if event.starts then map (stage_begun event.id) downtimes else filter (λ stage. not (stage.id == event.id)) downtimes
+stages_after event downtimes =
+    if event.starts then map (stage_begun event.id) downtimes
+    else filter (λ stage. not (stage.id == event.id)) downtimes
 
 abbrev pub stages_after_all : List Event → List Stage → List Stage
 stages_after_all [] downtimes = downtimes

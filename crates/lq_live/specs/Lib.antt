@@ -5,6 +5,6 @@ pub mod Edits
 pub mod Effects
 pub mod Step
 pub mod Ids
-pub mod Parts
-pub mod Moved
+pub mod Kept
+pub mod StepEdits
 pub mod Order

@@ -1,9 +1,9 @@
 -- In what order the events and the lines of a step stand.
 use Rattle.std.specs.Prelude.{◌≡◌, ℕ, ◌+◌, ◌<◌, ◌≤◌, ◌⊎◌, Bool, true, false, List, [], ◌∷◌}
-use Rattle.lq_records.specs.declared.log_entry.LogEntry.{LogEntry}
-use Rattle.lq_records.specs.declared.status.Downtime.{Downtime}
+use Rattle.lq_events.specs.declared.log_entry.LogEntry.{LogEntry}
+use Rattle.lq_events.specs.declared.status.Downtime.{Downtime}
 use Rattle.lq_live.specs.Downtimes.{stage_of}
-use Rattle.lq_live.specs.Parts.{IsFrom}
+use Rattle.lq_live.specs.Kept.{IsFrom}
 use Rattle.lq_live.specs.declared.stage.Stage.{Stage}
 use Rattle.lq_live.specs.declared.event.Event.{Event}
 use Rattle.lq_live.specs.declared.edit.Edit.{Edit}
@@ -12,12 +12,14 @@ use Rattle.lq_live.specs.declared.edit.Edit.TheVariants as edit
 -- the moments of events lie between two seconds
 abbrev pub Within : ℕ → ℕ → List Event → Type 0
 Within low high [] = Unit {0}
-Within low high (event ∷ events) = (low ≤ event.moment) × (event.moment ≤ high) × Within low high events
+Within low high (event ∷ events) =
+    (low ≤ event.moment) × (event.moment ≤ high) × Within low high events
 
 -- and they rise
 abbrev pub Rising : ℕ → ℕ → List Event → Type 0
 Rising low high [] = Unit {0}
-Rising low high (event ∷ events) = (low ≤ event.moment) × (event.moment ≤ high) × Rising event.moment high events
+Rising low high (event ∷ events) =
+    (low ≤ event.moment) × (event.moment ≤ high) × Rising event.moment high events
 
 -- each line is of a second
 abbrev pub LinesAt : ℕ → List LogEntry → Type 0
@@ -34,7 +36,8 @@ pub record IsNew (second : ℕ) (downtime : Downtime) : Type 0 where
   pub order : downtime.start < downtime.end
   pub ahead : IsFrom (second + 1) (stage_of downtime)
 
--- an edit of a command's effect: its line is of that second, its downtime is new, and it moves no time
+-- an edit of a command's effect: its line is of that second, its downtime is new, and it moves no
+-- time
 abbrev pub EditAt : ℕ → Edit → Type 0
 EditAt second (edit.Line entry) = entry.time ≡ second
 EditAt second (edit.AddDowntime downtime) = IsNew second downtime
@@ -60,7 +63,8 @@ all_added (edit ∷ edits) = added edit + all_added edits
 
 abbrev pub HasEvent : Bool → ℕ → List Event → Type 0
 HasEvent starts id [] = ⊥
-HasEvent starts id (event ∷ events) = ((event.starts ≡ starts) × (event.id ≡ id)) ⊎ HasEvent starts id events
+HasEvent starts id (event ∷ events) =
+    ((event.starts ≡ starts) × (event.id ≡ id)) ⊎ HasEvent starts id events
 
 pub record IsCovered (second : ℕ) (events : List Event) (stage : Stage) : Type 0 where
   pub end : stage.end ≤ second → HasEvent false stage.id events
@@ -68,4 +72,5 @@ pub record IsCovered (second : ℕ) (events : List Event) (stage : Stage) : Type
 
 abbrev pub AllCovered : ℕ → List Event → List Stage → Type 0
 AllCovered second events [] = Unit {0}
-AllCovered second events (stage ∷ downtimes) = IsCovered second events stage × AllCovered second events downtimes
+AllCovered second events (stage ∷ downtimes) =
+    IsCovered second events stage × AllCovered second events downtimes

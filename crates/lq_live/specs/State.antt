@@ -1,18 +1,18 @@
 -- The state of the monitored objects, and the one that a base opens with.
-use Rattle.std.specs.Prelude.{ℕ, pos, Bool, true, false, ◌==◌, Option, List, [], map}
+use Rattle.std.specs.Prelude.{ℕ, pos, Bool, true, Option, List, [], map}
 use Rattle.std.specs.List.{slice_get, slice_set}
 use Rattle.std.specs.Option.{option_map, option_map_or, option_and_then}
 use Rattle.lq_records.specs.declared.base.Base.{Base}
-use Rattle.lq_records.specs.declared.log_entry.LogEntry.{LogEntry}
-use Rattle.lq_records.specs.declared.status.Status.{Status}
-use Rattle.lq_records.specs.declared.status.Downtime.{Downtime}
-use Rattle.lq_records.specs.declared.status.Comment.{Comment}
-use Rattle.lq_records.specs.declared.status.Object.{Object}
-use Rattle.lq_records.specs.declared.status.Object.TheVariants as object
+use Rattle.lq_events.specs.declared.log_entry.LogEntry.{LogEntry}
+use Rattle.lq_events.specs.declared.status.Status.{Status}
+use Rattle.lq_events.specs.declared.status.Downtime.{Downtime}
+use Rattle.lq_events.specs.declared.status.Comment.{Comment}
+use Rattle.lq_records.specs.declared.object.Object.{Object}
+use Rattle.lq_records.specs.declared.object.Object.TheVariants as object
 
--- What is known at one moment: the objects, the status of each host and of each service by its place, the
--- downtimes, comments and log entries, the present second, the ids that the next downtime and the next
--- comment get, and whether people are notified at all.
+-- What is known at one moment: the objects, the status of each host and of each service by its
+-- place, the downtimes, comments and log entries, the present second, the ids that the next downtime
+-- and the next comment get, and whether people are notified at all.
 pub record State : Type 0 where
   pub base : Base
   pub host_status : List Status
@@ -74,34 +74,31 @@ status_of s (object.Service id) = slice_get s.service_status id.0
 
 -- the item at a place changed
 abbrev pub changed_at : {X : Type 0} → (X → X) → ℕ → List X → List X
-changed_at change place items = option_map_or (λ item. slice_set items place (change item)) (slice_get items place) items
+changed_at change place items =
+    option_map_or (λ item. slice_set items place (change item)) (slice_get items place) items
 
 -- the status of an object changed
 abbrev pub with_status : (Status → Status) → Object → State → State
-with_status change (object.Host id) s = record s { host_status = changed_at change id.0 s.host_status }
-with_status change (object.Service id) s = record s { service_status = changed_at change id.0 s.service_status }
+with_status change (object.Host id) s =
+    record s { host_status = changed_at change id.0 s.host_status }
+with_status change (object.Service id) s =
+    record s { service_status = changed_at change id.0 s.service_status }
 
 -- how a line names an object: its host, and its description where it is a service
 pub record LineNames : Type 0 where
   pub host : List ℕ
   pub service : List ℕ
 
+abbrev pub line_names : List ℕ → List ℕ → LineNames
+line_names host service = record { host = host; service = service }
+
 abbrev pub host_name : Base → ℕ → Option (List ℕ)
 host_name base place = option_map (λ host. host.host_name) (slice_get base.hosts place)
 
 -- None where the base doesn't hold the object
 abbrev pub names_of : Base → Object → Option LineNames
-names_of base (object.Host id) = option_map (λ name. record { host = name; service = [] }) (host_name base id.0)
+names_of base (object.Host id) = option_map (λ name. line_names name []) (host_name base id.0)
 names_of base (object.Service id) = option_and_then
-    (λ service. option_map (λ name. record { host = name; service = service.service_description }) (host_name base service.host.0))
+    (λ service. option_map (λ name. line_names name service.service_description)
+    (host_name base service.host.0))
     (slice_get base.services id.0)
-
-abbrev pub is_service : Object → Bool
-is_service (object.Host id) = false
-is_service (object.Service id) = true
-
-abbrev pub is_same_object : Object → Object → Bool
-is_same_object (object.Host a) (object.Host b) = a.0 == b.0
-is_same_object (object.Service a) (object.Service b) = a.0 == b.0
-is_same_object (object.Host a) (object.Service b) = false
-is_same_object (object.Service a) (object.Host b) = false

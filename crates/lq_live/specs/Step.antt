@@ -1,40 +1,47 @@
 -- One step of a state for each update.
 use Rattle.std.specs.Prelude.{ℕ, ◌-◌, min, max, List, [], ◌∷◌, ◌++◌, if◌then◌else◌}
 use Rattle.lq_records.specs.declared.base.Base.{Base}
-use Rattle.lq_records.specs.declared.log_entry.LogEntry.{LogEntry}
-use Rattle.lq_records.specs.declared.update.Update.{Update}
+use Rattle.lq_events.specs.declared.log_entry.LogEntry.{LogEntry}
+use Rattle.lq_events.specs.declared.update.Update.{Update}
 use Rattle.lq_log.specs.Written.{written}
 use Rattle.lq_log.specs.declared.written.Form.TheVariants as form
 use Rattle.lq_log.specs.declared.book.TheConstants.{TIME_LIMIT}
 use Rattle.lq_live.specs.State.{State}
 use Rattle.lq_live.specs.Downtimes.{due, stages, stages_after, all_after, depth}
 use Rattle.lq_live.specs.Edits.{played}
-use Rattle.lq_live.specs.Effects.{effect, turn_lines}
+use Rattle.lq_live.specs.Effects.{effect, transition_lines}
 use Rattle.lq_live.specs.declared.stage.Stage.{Stage}
 use Rattle.lq_live.specs.declared.event.Event.{Event}
-use Rattle.lq_live.specs.declared.event.Turn.{Turn}
-use Rattle.lq_live.specs.declared.event.Turn.TheVariants as turn
+use Rattle.lq_live.specs.declared.event.DowntimeTransition.{DowntimeTransition}
+use Rattle.lq_live.specs.declared.event.DowntimeTransition.TheVariants as transition
 
 -- ---- the present second moves on
 
-abbrev pub turn_of : Event → Turn
-turn_of event = if event.starts then turn.Started else turn.Stopped
+abbrev pub transition_of : Event → DowntimeTransition
+transition_of event = if event.starts then transition.Started else transition.Stopped
 
 -- the line of an event carries its moment
 abbrev pub event_lines : Base → Event → List Stage → List LogEntry
 event_lines base event downtimes =
-    turn_lines base event.moment (turn_of event) event.object (depth event.object downtimes) (depth event.object (stages_after event downtimes))
+    transition_lines base event.moment (transition_of event) event.object
+    (depth event.object downtimes) (depth event.object (stages_after event downtimes))
 
 abbrev pub due_lines : Base → List Event → List Stage → List LogEntry
 due_lines base [] downtimes = []
-due_lines base (event ∷ events) downtimes = event_lines base event downtimes ++ due_lines base events (stages_after event downtimes)
+due_lines base (event ∷ events) downtimes =
+    event_lines base event downtimes ++ due_lines base events (stages_after event downtimes)
 
--- the present second becomes the greater of it and another, and the downtimes that are due then begin and end
+-- the present second becomes the greater of it and another, and the downtimes that are due then
+-- begin and end
 abbrev pub advanced : ℕ → State → State
 advanced second s =
     let now : ℕ = max s.now second in
     let events : List Event = due now (stages s.downtimes) in
-    record s { now = now; downtimes = all_after events s.downtimes; log = s.log ++ due_lines s.base events (stages s.downtimes) }
+    record s {
+      now = now;
+      downtimes = all_after events s.downtimes;
+      log = s.log ++ due_lines s.base events (stages s.downtimes);
+    }
 
 -- ---- a step
 

@@ -4,7 +4,8 @@ ghost use Rattle.lq_live.specs.Edits.{is_named};
 
 use crate::comments::is_named;
 use crate::event::Event;
-use lq_records::Downtime;
+use lq_events::Downtime;
+use lq_records::ObjectKind;
 
 /// What an event leaves: a start makes its downtime active, an end removes it.
 pub(crate) fn play(event: &Event, downtimes: &mut Vec<Downtime>)
@@ -38,18 +39,20 @@ fn set_begun(downtime: &mut Downtime, id: u64)
 
 /// Removes the downtime with an id.
 fn end(downtimes: &mut Vec<Downtime>, id: u64)
-    ensures kept { downtimes.new.items ≡ filter (λ downtime. not (downtime.id == id)) downtimes.old.items }
+    ensures kept { downtimes.new.items
+        ≡ filter (λ downtime. not (downtime.id == id)) downtimes.old.items }
     ensures capacity { vec_capacity downtimes.new ≡ vec_capacity downtimes.old }
     ensures shorter { vec_len downtimes.new ≤ vec_len downtimes.old }
 {
     downtimes.retain(|downtime| downtime.id != id);
 }
 
-/// Removes the downtime with an id: that of a service, or of a host.
-pub(crate) fn remove(downtimes: &mut Vec<Downtime>, of_service: bool, id: u64)
-    ensures kept { downtimes.new.items ≡ filter (λ downtime. not (is_named of_service id downtime.id downtime.object)) downtimes.old.items }
+/// Removes the downtime that has an id, of an object of a kind.
+pub(crate) fn remove(downtimes: &mut Vec<Downtime>, kind: ObjectKind, id: u64)
+    ensures kept { downtimes.new.items ≡ filter
+        (λ downtime. not (is_named kind id downtime.id downtime.object)) downtimes.old.items }
     ensures capacity { vec_capacity downtimes.new ≡ vec_capacity downtimes.old }
     ensures shorter { vec_len downtimes.new ≤ vec_len downtimes.old }
 {
-    downtimes.retain(|downtime| !is_named(of_service, id, downtime.id, downtime.object));
+    downtimes.retain(|downtime| !is_named(kind, id, downtime.id, downtime.object));
 }

@@ -1,5 +1,5 @@
 ghost use Rattle.std.specs.Prelude.{◌≡◌, ◌++◌, ◌∷◌, ◌&&◌, nat_le, not, flat_map, drop, IfOk, OnOk};
-ghost use Rattle.lq_live.specs.Step.{turn_of};
+ghost use Rattle.lq_live.specs.Step.{transition_of};
 ghost use Rattle.lq_live.specs.Downtimes.{due, end_of, goes_before, goes_before_at_once, moments, only_if, ordered, placed, stages_after, start_of};
 
 use crate::stage::{Stage, begin_stage, remove_stage};
@@ -7,7 +7,7 @@ use lq_records::{Memory, Object};
 use std::alloc::Global;
 
 /// A moment at which a downtime begins or ends.
-#[derive(Clone, Copy, Debug)]
+#[derive(Clone, Copy)]
 pub(crate) struct Event {
     pub(crate) moment: u64,
     /// Whether the downtime begins.
@@ -18,8 +18,8 @@ pub(crate) struct Event {
 }
 
 /// How the number of an object's active downtimes changes.
-#[derive(Clone, Copy, Debug)]
-pub(crate) enum Turn {
+#[derive(Clone, Copy)]
+pub(crate) enum DowntimeTransition {
     Started,
     Stopped,
     Cancelled,
@@ -70,13 +70,13 @@ impl Event {
     }
 
     /// How the number of its object's active downtimes changes.
-    pub(crate) fn turn(&self) -> Turn
-        ensures { result ≡ turn_of self.now }
+    pub(crate) fn transition(&self) -> DowntimeTransition
+        ensures { result ≡ transition_of self.now }
     {
         if self.starts {
-            Turn::Started
+            DowntimeTransition::Started
         } else {
-            Turn::Stopped
+            DowntimeTransition::Stopped
         }
     }
 
@@ -119,7 +119,8 @@ fn push_moments(events: &mut Vec<Event>, second: u64, stage: &Stage) -> Result<(
 }
 
 fn push_start(events: &mut Vec<Event>, second: u64, stage: &Stage) -> Result<(), Memory>
-    ensures { OnOk result (events.new.items ≡ events.old.items ++ only_if (not stage.now.active && nat_le stage.now.start second) (start_of stage.now)) }
+    ensures { OnOk result (events.new.items ≡ events.old.items ++ only_if
+        (not stage.now.active && nat_le stage.now.start second) (start_of stage.now)) }
 {
     if stage.active || stage.start > second {
         return Ok(());
@@ -129,7 +130,8 @@ fn push_start(events: &mut Vec<Event>, second: u64, stage: &Stage) -> Result<(),
 }
 
 fn push_end(events: &mut Vec<Event>, second: u64, stage: &Stage) -> Result<(), Memory>
-    ensures { OnOk result (events.new.items ≡ events.old.items ++ only_if (nat_le stage.now.end second) (end_of stage.now)) }
+    ensures { OnOk result (events.new.items
+        ≡ events.old.items ++ only_if (nat_le stage.now.end second) (end_of stage.now)) }
 {
     if stage.end > second {
         return Ok(());

@@ -1,21 +1,20 @@
 //! The state of the monitored objects, and the step that each external command makes it take.
 #![tactic(auto)]
 
-mod checked;
+mod check_result;
+mod comment_effects;
 mod comments;
+mod context;
+mod downtime_effects;
 mod downtimes;
 mod due;
 mod edit;
 mod effect;
 mod event;
 mod live;
+mod live_state;
 mod names;
-mod parts;
-mod remark;
-mod schedule;
 mod stage;
 mod step;
-#[cfg(test)]
-mod tests;
 
 pub use live::Live;

@@ -1,49 +1,44 @@
 ghost use Rattle.std.specs.Prelude.{◌≡◌, [], Some, ◌+◌, ◌<◌, ◌≤◌, IfOk, OnOk, OnErr, length, map};
 ghost use Rattle.std.specs.List.{slice_get};
 ghost use Rattle.std.specs.Option.{option_copied};
-ghost use Rattle.lq_live.specs.Downtimes.{stages};
 ghost use Rattle.lq_live.specs.Ids.{IdsRise, comment_id, downtime_id};
-ghost use Rattle.lq_live.specs.Parts.{AllFrom, IsKept, state_of};
+ghost use Rattle.lq_live.specs.Kept.{IsIndexed, state_of};
 ghost use Rattle.lq_live.specs.State.{Counted, opened, pending};
 ghost use Rattle.lq_live.specs.Step.{step};
 
 use crate::edit::{play, reserve};
-use crate::parts::Parts;
+use crate::live_state::LiveState;
 use crate::stage::first_moment;
 use crate::step::step_edits;
+use lq_events::{Comment, Downtime, Status, Update};
 use lq_log::LogBook;
-use lq_records::{
-    Base, Comment, Downtime, Host, HostId, Memory, Service, ServiceId, Status, Text, Update,
-};
+use lq_records::{Base, Host, HostId, Memory, Service, ServiceId, Text};
 use std::alloc::Global;
 use std::marker::Model;
 
-/// The state of the objects of a base, and how many updates led to it. Seconds are counted from the
-/// beginning of 1970.
+/// The state of the objects of a base, and how many updates led to it. Seconds are counted from
+/// the beginning of 1970.
 #[derive(Drop)]
 pub struct Live {
     alloc: Global,
-    parts: Parts,
+    state: LiveState,
     count: u64,
 }
 
 impl Model for Live {
-    ghost use Rattle.std.specs.Prelude.{◌≤◌, length};
     ghost use Rattle.lq_live.specs.State.{Counted};
-    ghost use Rattle.lq_live.specs.Downtimes.{stages};
-    ghost use Rattle.lq_live.specs.Parts.{AllFrom, IsKept, state_of};
+    ghost use Rattle.lq_live.specs.Kept.{KeepsAll, state_of};
 
     ghost Value = { Counted };
 
-    ghost view = { λ live. record { state = state_of live.parts; count = live.count } };
+    ghost view = { λ live. record { state = state_of live.state; count = live.count } };
 
-    ghost invariant = { λ live. IsKept (state_of live.parts) × (live.count ≤ length live.parts.log.entries)
-        × AllFrom live.parts.next_moment (stages live.parts.downtimes.items) };
+    ghost invariant = { λ live. KeepsAll live.state live.count };
 }
 
 impl Live {
-    /// The opening state of a base: each object is pending, there are no downtimes and comments, people
-    /// are notified, and the present second is 0. The only error is want of memory.
+    /// The opening state of a base: each object is pending, there are no downtimes and comments,
+    /// people are notified, and the present second is 0. The only error is out of memory.
     pub fn open(alloc: Global, base: Base, log: LogBook) -> Result<Self, Memory>
         requires { log.entries ≡ [] }
         ensures { IfOk result (λ live. live ≡ record { state = opened base; count = 0 }) }
@@ -52,7 +47,7 @@ impl Live {
         let service_status = pending_services(alloc, base.services.as_slice())?;
         Ok(Live {
             alloc,
-            parts: Parts {
+            state: LiveState {
                 base,
                 host_status,
                 service_status,
@@ -69,17 +64,18 @@ impl Live {
         })
     }
 
-    /// Takes the step of an update: the present second moves on to the update's, the downtimes that are
-    /// due begin or end, the line of the external command is written, and the command takes effect. After
-    /// want of memory, the only error, all is as it was.
+    /// Takes the step of an update: the present second moves on to the update's, the downtimes that
+    /// are due begin or end, the line of the external command is added to the log, and the command
+    /// takes effect. The only error is out of memory, and all is then as it was.
     pub fn apply(&mut self, u: &Update) -> Result<(), Memory>
-        ensures ok { OnOk result (self.new ≡ record { state = step self.old.state u.now; count = self.old.count + 1 }) }
+        ensures ok { OnOk result (self.new
+            ≡ record { state = step self.old.state u.now; count = self.old.count + 1 }) }
         ensures err { OnErr result (self.new ≡ self.old) }
     {
-        let edits = step_edits(self.alloc, &self.parts, u)?;
-        reserve(&mut self.parts, edits.len())?;
-        play(&mut self.parts, edits);
-        look_ahead(&mut self.parts);
+        let edits = step_edits(self.alloc, &self.state, u)?;
+        reserve(&mut self.state, edits.len())?;
+        play(&mut self.state, edits);
+        look_ahead(&mut self.state);
         self.count += 1;
         Ok(())
     }
@@ -91,25 +87,25 @@ impl Live {
         self.count
     }
 
-    /// The present second.
+    /// The present second: the greatest one of an update so far, below `lq_log::TIME_LIMIT`.
     pub fn now(&self) -> u64
         ensures { result ≡ self.now.state.now }
     {
-        self.parts.present
+        self.state.present
     }
 
     /// The objects.
     pub fn base(&self) -> &Base
         ensures { result.now ≡ self.now.state.base }
     {
-        &self.parts.base
+        &self.state.base
     }
 
-    /// The log.
+    /// The log of all steps.
     pub fn log(&self) -> &LogBook
         ensures { result.now.entries ≡ self.now.state.log }
     {
-        &self.parts.log
+        &self.state.log
     }
 
     /// The status of a host.
@@ -117,7 +113,7 @@ impl Live {
         requires { id.0 < length self.now.state.base.hosts }
         ensures { slice_get self.now.state.host_status id.0 ≡ Some result.now }
     {
-        &self.parts.host_status[id.0 as usize]
+        &self.state.host_status[id.0 as usize]
     }
 
     /// The status of a service.
@@ -125,28 +121,28 @@ impl Live {
         requires { id.0 < length self.now.state.base.services }
         ensures { slice_get self.now.state.service_status id.0 ≡ Some result.now }
     {
-        &self.parts.service_status[id.0 as usize]
+        &self.state.service_status[id.0 as usize]
     }
 
     /// The statuses of the hosts, in the order of the base.
     pub fn host_statuses(&self) -> &[Status]
         ensures { result.now ≡ self.now.state.host_status }
     {
-        &self.parts.host_status
+        &self.state.host_status
     }
 
     /// The statuses of the services, in the order of the base.
     pub fn service_statuses(&self) -> &[Status]
         ensures { result.now ≡ self.now.state.service_status }
     {
-        &self.parts.service_status
+        &self.state.service_status
     }
 
     /// Whether people are notified at all.
     pub fn notifications(&self) -> bool
         ensures { result ≡ self.now.state.notifications }
     {
-        self.parts.notifications
+        self.state.notifications
     }
 
     /// The downtimes, in order of their ids. No two have the same.
@@ -154,7 +150,7 @@ impl Live {
         ensures all { result.now ≡ self.now.state.downtimes }
         ensures ids { IdsRise downtime_id 0 self.now.state.next_downtime result.now }
     {
-        &self.parts.downtimes
+        &self.state.downtimes
     }
 
     /// The comments, in order of their ids. No two have the same.
@@ -162,17 +158,17 @@ impl Live {
         ensures all { result.now ≡ self.now.state.comments }
         ensures ids { IdsRise comment_id 0 self.now.state.next_comment result.now }
     {
-        &self.parts.comments
+        &self.state.comments
     }
 }
 
-/// Makes `next_moment` true again where its second has come.
-fn look_ahead(parts: &mut Parts)
-    ensures state { state_of parts.new ≡ state_of parts.old }
-    ensures moment { AllFrom parts.old.next_moment (stages parts.old.downtimes.items) → AllFrom parts.new.next_moment (stages parts.new.downtimes.items) }
+/// Finds the next moment anew where its second has come.
+fn look_ahead(live: &mut LiveState)
+    ensures state { state_of live.new ≡ state_of live.old }
+    ensures index { IsIndexed live.old → IsIndexed live.new }
 {
-    if parts.present >= parts.next_moment {
-        parts.next_moment = first_moment(&parts.downtimes);
+    if live.present >= live.next_moment {
+        live.next_moment = first_moment(&live.downtimes);
     }
 }
 
@@ -198,7 +194,8 @@ fn pending(alloc: Global, notifications: u8) -> Status
 }
 
 fn pending_hosts(alloc: Global, hosts: &[Host]) -> Result<Vec<Status>, Memory>
-    ensures { IfOk result (λ list. list.items ≡ map (λ host. pending host.fields.notifications_enabled) hosts.now) }
+    ensures { IfOk result (λ list. list.items
+        ≡ map (λ host. pending host.fields.notifications_enabled) hosts.now) }
 {
     let mut list = Vec::with_capacity(alloc, hosts.len())?;
     for host in hosts {
@@ -208,7 +205,8 @@ fn pending_hosts(alloc: Global, hosts: &[Host]) -> Result<Vec<Status>, Memory>
 }
 
 fn pending_services(alloc: Global, services: &[Service]) -> Result<Vec<Status>, Memory>
-    ensures { IfOk result (λ list. list.items ≡ map (λ service. pending service.fields.notifications_enabled) services.now) }
+    ensures { IfOk result (λ list. list.items
+        ≡ map (λ service. pending service.fields.notifications_enabled) services.now) }
 {
     let mut list = Vec::with_capacity(alloc, services.len())?;
     for service in services {

@@ -1,13 +1,13 @@
 ghost use Rattle.std.specs.Prelude.{◌≡◌, ◌++◌, ◌∷◌, [], filter, not, map, length, vec_capacity, vec_len, ◌≤◌, OnOk, IfOk, ◌==◌};
-ghost use Rattle.lq_live.specs.Parts.{AllFrom, IsFrom, first_of, next_of};
+ghost use Rattle.lq_live.specs.Kept.{AllFrom, IsFrom, first_of, next_of};
 ghost use Rattle.lq_live.specs.Downtimes.{begun, depth, is_active_of, stage_begun, stage_of, stages};
 
-use crate::names::is_same_object;
-use lq_records::{Downtime, Memory, Object};
+use lq_events::Downtime;
+use lq_records::{Memory, Object};
 use std::alloc::Global;
 
 /// A downtime without its texts.
-#[derive(Clone, Copy, Debug)]
+#[derive(Clone, Copy)]
 pub(crate) struct Stage {
     pub(crate) id: u64,
     pub(crate) object: Object,
@@ -32,7 +32,7 @@ impl Stage {
     fn is_active_of(&self, object: Object) -> bool
         ensures { result ≡ is_active_of object self.now }
     {
-        self.active && is_same_object(self.object, object)
+        self.active && self.object.is_same(object)
     }
 }
 

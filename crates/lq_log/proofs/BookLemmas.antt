@@ -1,6 +1,6 @@
 -- What a further entry does to the order of a book.
 use Rattle.std.proofs.Common.{◌≡◌, ℕ, ◌<◌, ◌≤◌, List, [], ◌∷◌, ◌++◌, refl}
-use Rattle.lq_records.specs.declared.log_entry.LogEntry.{LogEntry}
+use Rattle.lq_events.specs.declared.log_entry.LogEntry.{LogEntry}
 use Rattle.lq_log.specs.Book.{InOrder, InOrderAfter, last_time, time_after}
 use Rattle.lq_log.specs.declared.book.TheConstants.{TIME_LIMIT}
 

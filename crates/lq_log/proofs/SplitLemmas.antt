@@ -80,9 +80,9 @@ pub parts_none : (text : List ℕ) (at : ℕ) → length text ≤ at + 1
     → grown (take at text) (parted (drop at text)) ≡ parted text → None ≡ parted text
 parts_none text at past so = sym (ap (grown (take at text)) (too_short (drop at text) (simp length-drop (omega (arith, past))))) ∙ so
 
--- what stands behind the blank is text
-pub behind_colon : (text : List ℕ) (at : ℕ) → IsUtf8 text → at + 1 < length text → IsTrue (is_blank (get_or text (at + 1) 0)) → IsCharBoundary text (at + 2)
-behind_colon text at utf8 within blank =
+-- what follows the blank is text
+pub after_colon : (text : List ℕ) (at : ℕ) → IsUtf8 text → at + 1 < length text → IsTrue (is_blank (get_or text (at + 1) 0)) → IsCharBoundary text (at + 2)
+after_colon text at utf8 within blank =
     let small : get_or text (at + 1) 0 < 128 = grind (arith, nat_tests, blank) in
     let two : at + 1 + 1 ≡ at + 2 = omega arith in
     subst (IsCharBoundary text) two (IsCharBoundary-after_ascii text (at + 1) utf8 within small)

@@ -13,9 +13,9 @@ use Rattle.std.specs.List.{list_all, prefix_len}
 use Rattle.lq_text.specs.Blanks.{is_blank, without_front}
 use Rattle.lq_text.specs.Numbers.{number_of}
 use Rattle.lq_text.specs.Seconds.{digits_of, has_second, second_of, text_behind}
-use Rattle.lq_records.specs.declared.log_entry.LogEntry.{LogEntry}
+use Rattle.lq_events.specs.declared.log_entry.LogEntry.{LogEntry}
 use Rattle.lq_log.specs.Entries.{entry_of, said}
-use Rattle.lq_log.specs.Written.{form_text, is_of_host, next_field, object_text, remark, stamped, state_word, type_word, written}
+use Rattle.lq_log.specs.Written.{downtime_fields, form_text, is_of_host, next_field, object_text, stamped, state_word, type_word, written}
 use Rattle.lq_log.specs.declared.written.Form.{Form}
 use Rattle.lq_log.specs.declared.written.Form.TheVariants as form
 
@@ -98,11 +98,11 @@ alert_begins : (of_host : Bool) (object state hard attempt output : List ℕ)
 alert_begins true object state hard attempt output = refl
 alert_begins false object state hard attempt output = refl
 
-downtime_begins : (of_host : Bool) (object remark : List ℕ)
-    → let text : List ℕ = (if of_host then codes "HOST DOWNTIME ALERT: " else codes "SERVICE DOWNTIME ALERT: ") ++ object ++ remark in
+downtime_begins : (of_host : Bool) (object fields : List ℕ)
+    → let text : List ℕ = (if of_host then codes "HOST DOWNTIME ALERT: " else codes "SERVICE DOWNTIME ALERT: ") ++ object ++ fields in
     without_front text ≡ text
-downtime_begins true object remark = refl
-downtime_begins false object remark = refl
+downtime_begins true object fields = refl
+downtime_begins false object fields = refl
 
 text_begins : (form : Form) → without_front (form_text form) ≡ form_text form
 unfolding form_text
@@ -110,7 +110,7 @@ text_begins (form.External text) = refl
 text_begins (form.Alert host service state hard attempt output) =
     alert_begins (is_of_host service) (object_text host service) (next_field (state_word service state)) (next_field (type_word hard)) (next_field (decimal attempt)) (next_field output)
 text_begins (form.Downtime host service word) =
-    downtime_begins (is_of_host service) (object_text host service) (next_field (remark service word))
+    downtime_begins (is_of_host service) (object_text host service) (next_field (downtime_fields service word))
 
 stamped_line : (time : ℕ) (text : List ℕ) → line (decimal time) text ≡ stamped time text
 unfolding stamped line

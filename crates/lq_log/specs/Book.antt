@@ -1,6 +1,6 @@
 -- The entries of a log.
 use Rattle.std.specs.Prelude.{ℕ, ◌<◌, ◌≤◌, ⊤, List, [], ◌∷◌}
-use Rattle.lq_records.specs.declared.log_entry.LogEntry.{LogEntry}
+use Rattle.lq_events.specs.declared.log_entry.LogEntry.{LogEntry}
 use Rattle.lq_log.specs.declared.book.TheConstants.{TIME_LIMIT}
 
 -- the entries of a book, and how many more it has room for
@@ -20,7 +20,8 @@ last_time entries = time_after 0 entries
 -- each entry's time is at least that of the one before, and below the limit
 abbrev pub InOrderAfter : ℕ → List LogEntry → Type 0
 InOrderAfter before [] = ⊤
-InOrderAfter before (entry ∷ entries) = (before ≤ entry.time) × (entry.time < TIME_LIMIT) × InOrderAfter entry.time entries
+InOrderAfter before (entry ∷ entries) =
+    (before ≤ entry.time) × (entry.time < TIME_LIMIT) × InOrderAfter entry.time entries
 
 abbrev pub InOrder : List LogEntry → Type 0
 InOrder entries = InOrderAfter 0 entries

@@ -4,9 +4,9 @@ use Rattle.std.specs.List.{list_any, starts_with}
 use Rattle.std.specs.Option.{option_map, option_and_then}
 use Rattle.lq_text.specs.Blanks.{is_blank}
 use Rattle.lq_text.specs.Seconds.{second_of, text_behind}
-use Rattle.lq_records.specs.declared.log_entry.Kind.{Kind}
-use Rattle.lq_records.specs.declared.log_entry.Kind.TheVariants as kind
-use Rattle.lq_records.specs.declared.log_entry.LogEntry.{LogEntry}
+use Rattle.lq_events.specs.declared.log_entry.Kind.{Kind}
+use Rattle.lq_events.specs.declared.log_entry.Kind.TheVariants as kind
+use Rattle.lq_events.specs.declared.log_entry.LogEntry.{LogEntry}
 use Rattle.lq_log.specs.Fields.{with_fields}
 use Rattle.lq_log.specs.Forms.{LineForm, form_named}
 
@@ -30,18 +30,24 @@ blank class kind = record {
 
 -- ---- texts with a form
 
--- what stands before and what stands behind the first colon with a blank after it; None where there is none
+-- the character `:`
+abbrev pub colon : ℕ
+colon = 58
+
+-- what stands before the first colon with a blank after it, and what follows that blank; None where
+-- there is no such colon
 unfoldable pub parted : List ℕ → Option (List ℕ × List ℕ)
 parted [] = None
 parted (byte ∷ []) = None
 parted (byte ∷ next ∷ text) =
-    if (byte == 58) && is_blank next then Some ([], text) else option_map (λ parts. (byte ∷ parts.0, parts.1)) (parted (next ∷ text))
+    if (byte == colon) && is_blank next then Some ([], text)
+    else option_map (λ parts. (byte ∷ parts.0, parts.1)) (parted (next ∷ text))
 
 -- what a text of a form says
 abbrev pub filled : List ℕ → LineForm → Option LogEntry
 filled text form = with_fields form.fields text (blank form.class form.kind)
 
--- the text before the colon is a form's name, the one behind it has that form's fields
+-- the text before the colon is a form's name, the one after it has that form's fields
 abbrev pub formed : List ℕ × List ℕ → Option LogEntry
 formed parts = option_and_then (filled parts.1) (form_named parts.0)
 
@@ -50,20 +56,26 @@ formed parts = option_and_then (filled parts.1) (form_named parts.0)
 -- what a text begins with that tells of the program's own run
 abbrev pub program_beginnings : List (List ℕ)
 program_beginnings =
-    codes "LOG VERSION" ∷ codes "LOG ROTATION" ∷ codes "Nagios " ∷ codes "Caught " ∷ codes "Successfully shutdown"
-    ∷ codes "Bailing out" ∷ codes "Finished daemonizing" ∷ codes "Auto-save of retention data" ∷ []
+    codes "LOG VERSION" ∷ codes "LOG ROTATION" ∷ codes "Nagios " ∷ codes "Caught "
+    ∷ codes "Successfully shutdown" ∷ codes "Bailing out" ∷ codes "Finished daemonizing"
+    ∷ codes "Auto-save of retention data" ∷ []
 
 -- class 2 tells of the program's own run, class 0 of anything else
 abbrev pub other : List ℕ → LogEntry
-other text = blank (if list_any (starts_with nat_eq text) program_beginnings then 2 else 0) kind.Other
+other text =
+    blank (if list_any (starts_with nat_eq text) program_beginnings then 2 else 0) kind.Other
 
 -- ---- the entry
 
--- What a text says. One with a form's name and not its fields says no more than a text without a form.
+-- What a text says. One with a form's name and not its fields says no more than a text without a
+-- form.
 unfoldable pub said : List ℕ → LogEntry
 said text = unwrap_or (option_and_then formed (parted text)) (other text)
 
--- the entry of a line, by the time of the entry before it; None where no second in brackets stands at its front
+-- the entry of a line, by the time of the entry before it; None where no second in brackets stands
+-- at its front
 abbrev pub entry_of : List ℕ → ℕ → Option LogEntry
 entry_of line before =
-    option_map (λ second. record (said (text_behind line)) { time = max second before; message = line }) (second_of line)
+    option_map
+    (λ second. record (said (text_behind line)) { time = max second before; message = line })
+    (second_of line)

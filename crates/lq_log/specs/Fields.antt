@@ -5,9 +5,9 @@ use Rattle.std.specs.List.{list_any, list_all, before_first, after_first}
 use Rattle.std.specs.Option.{option_map, option_and_then}
 use Rattle.std.specs.Ordering.{int_eq}
 use Rattle.lq_text.specs.Numbers.{has_minus, integer_of, number_of, without_minus}
-use Rattle.lq_records.specs.declared.log_entry.Kind.{Kind}
-use Rattle.lq_records.specs.declared.log_entry.Kind.TheVariants as kind
-use Rattle.lq_records.specs.declared.log_entry.LogEntry.{LogEntry}
+use Rattle.lq_events.specs.declared.log_entry.Kind.{Kind}
+use Rattle.lq_events.specs.declared.log_entry.Kind.TheVariants as kind
+use Rattle.lq_events.specs.declared.log_entry.LogEntry.{LogEntry}
 use Rattle.lq_log.specs.declared.field.Field.{Field}
 use Rattle.lq_log.specs.declared.field.Field.TheVariants as field
 
@@ -19,7 +19,8 @@ host_states = (codes "UP", pos 0) ∷ (codes "DOWN", pos 1) ∷ (codes "UNREACHA
 
 abbrev pub service_states : List (List ℕ × ℤ)
 service_states =
-    (codes "OK", pos 0) ∷ (codes "WARNING", pos 1) ∷ (codes "CRITICAL", pos 2) ∷ (codes "UNKNOWN", pos 3) ∷ []
+    (codes "OK", pos 0) ∷ (codes "WARNING", pos 1) ∷ (codes "CRITICAL", pos 2)
+    ∷ (codes "UNKNOWN", pos 3) ∷ []
 
 -- the number of a state's name, and the name of a state's number
 abbrev pub state_named : List (List ℕ × ℤ) → List ℕ → Option ℤ
@@ -44,13 +45,25 @@ is_one_of words word = list_any (bytes_eq word) words
 
 -- an attempt has 1 to 9 digits
 abbrev pub is_attempt : List ℕ → Bool
-is_attempt text = list_all is_ascii_digit text && nat_lt 0 (length text) && nat_le (length text) 9
+is_attempt text =
+    list_all is_ascii_digit text && nat_lt 0 (length text) && nat_le (length text) 9
+
+-- the characters `0` and `3`
+abbrev digit_0 : ℕ
+digit_0 = 48
+
+abbrev digit_3 : ℕ
+digit_3 = 51
 
 -- a check's code is one digit, 0 to 3
 abbrev pub is_code : List ℕ → Bool
-is_code text = (length text == 1) && nat_le 48 (slice_index text 0) && nat_le (slice_index text 0) 51
+is_code text =
+    (length text == 1) && nat_le digit_0 (slice_index text 0) && nat_le (slice_index text 0) digit_3
 
--- the number that digits behind an optional `-` say, where it is one of 64 bits
+abbrev pub code_of : List ℕ → ℤ
+code_of text = pos (slice_index text 0 - digit_0)
+
+-- the number that digits say, with an optional `-` before them, where it is one of 64 bits
 abbrev pub is_in_range : Bool → ℕ → Bool
 is_in_range true number = nat_le number (2 ^ 63)
 is_in_range false number = nat_lt number (2 ^ 63)
@@ -85,36 +98,47 @@ with_field entry field.HostName text = Some (record entry { host = text })
 with_field entry field.ServiceDescription text = Some (record entry { service = text })
 with_field entry field.HostState text = with_state (state_named host_states text) entry
 with_field entry field.ServiceState text = with_state (state_named service_states text) entry
-with_field entry field.StateType text = where_holds (is_one_of state_types text) (record entry { word = text })
-with_field entry field.Attempt text = where_holds (is_attempt text) (record entry { attempt = number_of text })
-with_field entry field.Code text = where_holds (is_code text) (record entry { state = pos (slice_index text 0 - 48) })
-with_field entry field.DowntimeWord text = where_holds (is_one_of downtime_words text) (record entry { word = text })
-with_field entry field.FlappingWord text = where_holds (is_one_of flapping_words text) (record entry { word = text })
-with_field entry field.HostWord text = Some (record entry { word = text; state = unwrap_or (state_named host_states text) (pos 0) })
+with_field entry field.StateType text =
+    where_holds (is_one_of state_types text) (record entry { word = text })
+with_field entry field.Attempt text =
+    where_holds (is_attempt text) (record entry { attempt = number_of text })
+with_field entry field.Code text =
+    where_holds (is_code text) (record entry { state = code_of text })
+with_field entry field.DowntimeWord text =
+    where_holds (is_one_of downtime_words text) (record entry { word = text })
+with_field entry field.FlappingWord text =
+    where_holds (is_one_of flapping_words text) (record entry { word = text })
+with_field entry field.HostWord text =
+    Some (record entry { word = text; state = unwrap_or (state_named host_states text) (pos 0) })
 with_field entry field.ServiceWord text =
     Some (record entry { word = text; state = unwrap_or (state_named service_states text) (pos 0) })
 with_field entry field.PluginOutput text = Some (record entry { output = text })
 with_field entry field.Comment text = Some (record entry { comment = text })
 with_field entry field.ContactName text = Some (record entry { contact = text })
 with_field entry field.CommandName text = Some (record entry { command = text })
-with_field entry field.PeriodName text = Some (record entry { kind = kind.TimeperiodTransition text (pos 0) (pos 0) })
-with_field entry field.From text = option_map (λ from. record entry { kind = with_from from entry.kind }) (integer_read text)
-with_field entry field.To text = option_map (λ to. record entry { kind = with_to to entry.kind }) (integer_read text)
+with_field entry field.PeriodName text =
+    Some (record entry { kind = kind.TimeperiodTransition text (pos 0) (pos 0) })
+with_field entry field.From text =
+    option_map (λ from. record entry { kind = with_from from entry.kind }) (integer_read text)
+with_field entry field.To text =
+    option_map (λ to. record entry { kind = with_to to entry.kind }) (integer_read text)
 
 -- ---- the fields of a text
 
+-- the character `;`
 abbrev pub is_separator : ℕ → Bool
 is_separator byte = byte == 59
 
 abbrev pub has_separator : List ℕ → Bool
 has_separator text = list_any is_separator text
 
--- The fields of a text go into the entry in turn: each goes up to its first `;`, the last one takes the rest.
--- None where one is missing, or hasn't its form.
+-- The fields of a text go into the entry in turn: each goes up to its first `;`, the last one takes
+-- the rest. None where one is missing, or hasn't its form.
 abbrev pub with_fields : List Field → List ℕ → LogEntry → Option LogEntry
 with_fields [] text entry = Some entry
 with_fields (field ∷ []) text entry = with_field entry field text
 with_fields (field ∷ next ∷ fields) text entry =
     if has_separator text
-    then option_and_then (with_fields (next ∷ fields) (after_first is_separator text)) (with_field entry field (before_first is_separator text))
+    then option_and_then (with_fields (next ∷ fields) (after_first is_separator text))
+    (with_field entry field (before_first is_separator text))
     else None

@@ -1,7 +1,7 @@
 -- The lines that the program writes.
 use Rattle.std.specs.Prelude.{ℕ, Bool, List, ◌++◌, length, unwrap_or, bytes_eq, codes, ◌==◌, if◌then◌else◌, ℤ, []}
 use Rattle.std.specs.Fmt.{decimal}
-use Rattle.lq_records.specs.declared.log_entry.LogEntry.{LogEntry}
+use Rattle.lq_events.specs.declared.log_entry.LogEntry.{LogEntry}
 use Rattle.lq_log.specs.Entries.{said}
 use Rattle.lq_log.specs.Fields.{host_states, name_of_state, service_states}
 use Rattle.lq_log.specs.declared.written.Form.{Form}
@@ -13,11 +13,11 @@ use Rattle.lq_log.specs.declared.written.Form.TheVariants as form
 abbrev pub is_of_host : List ℕ → Bool
 is_of_host service = length service == 0
 
--- the host, and a service's description behind it
+-- the host, and a service's description after it
 unfoldable pub object_text : List ℕ → List ℕ → List ℕ
 object_text host service = if is_of_host service then host else host ++ codes ";" ++ service
 
--- a field behind another one
+-- a field that follows another one
 abbrev pub next_field : List ℕ → List ℕ
 next_field text = codes ";" ++ text
 
@@ -34,31 +34,37 @@ abbrev pub type_word : Bool → List ℕ
 type_word hard = if hard then codes "HARD" else codes "SOFT"
 
 abbrev pub downtime_name : List ℕ → List ℕ
-downtime_name service = if is_of_host service then codes "HOST DOWNTIME ALERT: " else codes "SERVICE DOWNTIME ALERT: "
+downtime_name service =
+    if is_of_host service then codes "HOST DOWNTIME ALERT: " else codes "SERVICE DOWNTIME ALERT: "
 
--- the word of a downtime with its remark
-abbrev pub host_remark : List ℕ → List ℕ
-host_remark word =
-    if bytes_eq word (codes "STARTED") then codes "STARTED; Host has entered a period of scheduled downtime"
-    else if bytes_eq word (codes "STOPPED") then codes "STOPPED; Host has exited from a period of scheduled downtime"
+-- the word of a downtime, and the comment that follows it
+abbrev pub host_downtime : List ℕ → List ℕ
+host_downtime word =
+    if bytes_eq word (codes "STARTED")
+    then codes "STARTED; Host has entered a period of scheduled downtime"
+    else if bytes_eq word (codes "STOPPED")
+    then codes "STOPPED; Host has exited from a period of scheduled downtime"
     else codes "CANCELLED; Scheduled downtime for host has been cancelled."
 
-abbrev pub service_remark : List ℕ → List ℕ
-service_remark word =
-    if bytes_eq word (codes "STARTED") then codes "STARTED; Service has entered a period of scheduled downtime"
-    else if bytes_eq word (codes "STOPPED") then codes "STOPPED; Service has exited from a period of scheduled downtime"
+abbrev pub service_downtime : List ℕ → List ℕ
+service_downtime word =
+    if bytes_eq word (codes "STARTED")
+    then codes "STARTED; Service has entered a period of scheduled downtime"
+    else if bytes_eq word (codes "STOPPED")
+    then codes "STOPPED; Service has exited from a period of scheduled downtime"
     else codes "CANCELLED; Scheduled downtime for service has been cancelled."
 
-abbrev pub remark : List ℕ → List ℕ → List ℕ
-remark service word = if is_of_host service then host_remark word else service_remark word
+abbrev pub downtime_fields : List ℕ → List ℕ → List ℕ
+downtime_fields service word =
+    if is_of_host service then host_downtime word else service_downtime word
 
 unfoldable pub form_text : Form → List ℕ
 form_text (form.External text) = codes "EXTERNAL COMMAND: " ++ text
 form_text (form.Alert host service state hard attempt output) =
-    alert_name service ++ object_text host service ++ next_field (state_word service state) ++ next_field (type_word hard)
-    ++ next_field (decimal attempt) ++ next_field output
+    alert_name service ++ object_text host service ++ next_field (state_word service state)
+    ++ next_field (type_word hard) ++ next_field (decimal attempt) ++ next_field output
 form_text (form.Downtime host service word) =
-    downtime_name service ++ object_text host service ++ next_field (remark service word)
+    downtime_name service ++ object_text host service ++ next_field (downtime_fields service word)
 
 -- ---- the entry
 
@@ -68,4 +74,5 @@ stamped time text = codes "[" ++ decimal time ++ codes "] " ++ text
 
 -- the entry of a form at a second: what its text says, and the whole line
 abbrev pub written : ℕ → Form → LogEntry
-written time form = record (said (form_text form)) { time = time; message = stamped time (form_text form) }
+written time form =
+    record (said (form_text form)) { time = time; message = stamped time (form_text form) }

@@ -2,14 +2,16 @@ ghost use Rattle.std.specs.Prelude.{◌≡◌, ◌<◌, ◌≤◌, ◌^◌, ◌+
 ghost use Rattle.lq_log.specs.Book.{InOrder, last_time};
 ghost use Rattle.lq_log.specs.declared.book.TheConstants.{TIME_LIMIT};
 
-use lq_records::{LogEntry, Memory};
+use lq_events::LogEntry;
+use lq_records::Memory;
 use std::alloc::{AllocError, Global};
 use std::marker::Model;
 
-/// Each second is below it, as a second is written with at most 12 digits.
+/// Each entry's second is below it: a second in brackets has at most 12 digits, and this number has
+/// 13, so that a line with it would not be read again.
 pub const TIME_LIMIT: u64 = 1_000_000_000_000;
 
-/// A book has at most as many entries.
+/// The most entries of a book. One more is refused, as if there were no memory for it.
 const MOST_ENTRIES: usize = 1 << 40;
 
 /// The entries of a log, each no earlier than the one before.
@@ -25,7 +27,10 @@ impl Model for LogBook {
 
     ghost Value = { Book };
 
-    ghost view = { λ book. record { entries = book.entries.items; room = min (vec_capacity book.entries) (2 ^ 40) - vec_len book.entries } };
+    ghost view = { λ book. record {
+      entries = book.entries.items;
+      room = min (vec_capacity book.entries) (2 ^ 40) - vec_len book.entries;
+    } };
 
     ghost invariant = { λ book. (vec_len book.entries ≤ 2 ^ 40) × InOrder book.entries.items };
 }
@@ -40,8 +45,8 @@ impl LogBook {
         }
     }
 
-    /// Makes room for n more entries. The only error is want of memory, which more than 2^40 entries
-    /// are too; the book is as before then.
+    /// Makes room for n more entries. The only error is running out of memory, also where there
+    /// would be more than 2^40 entries; the book is as before then.
     pub fn reserve(&mut self, n: usize) -> Result<(), Memory>
         ensures kept { self.new.entries ≡ self.old.entries }
         ensures ok { OnOk result (n ≤ self.new.room) }
@@ -56,8 +61,9 @@ impl LogBook {
         self.entries.reserve(n)
     }
 
-    /// Adds an entry at the end, which is no earlier than the last one. The only error is want of memory, which more than 2^40 entries are
-    /// too; the entries are as before then. Where the book has room it isn't given.
+    /// Adds an entry at the end, which is no earlier than the last one. The only error is running
+    /// out of memory, also where there would be more than 2^40 entries; the entries are as before
+    /// then. It doesn't come where the book has room.
     #[tactic(auto, using(crate::proofs::BookLemmas::longer_in_order, crate::proofs::BookLemmas::last_time_added))]
     pub fn add(&mut self, entry: LogEntry) -> Result<(), Memory>
         requires order { last_time self.old.entries ≤ entry.time }

@@ -1,5 +1,5 @@
 /// A field of a log line, by what it says.
-#[derive(Clone, Copy, Debug, PartialEq, Eq)]
+#[derive(Clone, Copy)]
 pub(crate) enum Field {
     HostName,
     ServiceDescription,

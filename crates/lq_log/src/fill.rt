@@ -1,6 +1,6 @@
 ghost use Rattle.std.specs.Prelude.{◌≡◌, IfOk, Some, pos, unwrap_or};
 ghost use Rattle.std.specs.Option.{option_map};
-ghost use Rattle.lq_records.specs.declared.log_entry.Kind.TheVariants.{TimeperiodTransition};
+ghost use Rattle.lq_events.specs.declared.log_entry.Kind.TheVariants.{TimeperiodTransition};
 ghost use Rattle.lq_log.specs.Fields.{where_holds, with_field, with_fields, with_state, with_from, with_to};
 
 use crate::field::Field;
@@ -8,7 +8,8 @@ use crate::words::{
     attempt, code, host_state, integer, is_downtime_word, is_flapping_word, is_state_type,
     service_state,
 };
-use lq_records::{Kind, LogEntry, Memory, Text};
+use lq_events::{Kind, LogEntry};
+use lq_records::{Memory, Text};
 use std::alloc::Global;
 
 /// The entry with the fields of a text, each up to its `;`, the last one to the end. None where one
@@ -148,7 +149,9 @@ fn with_notice(
     state: Option<i64>,
     text: &str,
 ) -> Result<Option<LogEntry>, Memory>
-    ensures { IfOk result (λ longer. longer ≡ Some (record entry { word = text.now; state = unwrap_or state (pos 0) })) }
+    ensures { IfOk result
+        (λ longer. longer
+        ≡ Some (record entry { word = text.now; state = unwrap_or state (pos 0) })) }
 {
     entry.word = Text::new(alloc, text)?;
     entry.state = state.unwrap_or(0);
@@ -157,7 +160,9 @@ fn with_notice(
 
 /// The entry with the name of the period that goes over.
 fn with_period(alloc: Global, mut entry: LogEntry, text: &str) -> Result<Option<LogEntry>, Memory>
-    ensures { IfOk result (λ longer. longer ≡ Some (record entry { kind = TimeperiodTransition text.now (pos 0) (pos 0) })) }
+    ensures { IfOk result
+        (λ longer. longer
+        ≡ Some (record entry { kind = TimeperiodTransition text.now (pos 0) (pos 0) })) }
 {
     entry.kind = Kind::TimeperiodTransition {
         name: Text::new(alloc, text)?,
@@ -169,7 +174,8 @@ fn with_period(alloc: Global, mut entry: LogEntry, text: &str) -> Result<Option<
 
 /// The entry with what its period goes over from, where that is a number.
 fn with_from(mut entry: LogEntry, number: Option<i64>) -> Option<LogEntry>
-    ensures { result ≡ option_map (λ from. record entry { kind = with_from from entry.kind }) number }
+    ensures { result
+        ≡ option_map (λ from. record entry { kind = with_from from entry.kind }) number }
 {
     let number = number?;
     if let Kind::TimeperiodTransition { from, .. } = &mut entry.kind {
@@ -180,7 +186,8 @@ fn with_from(mut entry: LogEntry, number: Option<i64>) -> Option<LogEntry>
 
 /// The entry with what its period goes over to, where that is a number.
 fn with_to(mut entry: LogEntry, number: Option<i64>) -> Option<LogEntry>
-    ensures { result ≡ option_map (λ to. record entry { kind = with_to to entry.kind }) number }
+    ensures { result
+        ≡ option_map (λ to. record entry { kind = with_to to entry.kind }) number }
 {
     let number = number?;
     if let Kind::TimeperiodTransition { to, .. } = &mut entry.kind {

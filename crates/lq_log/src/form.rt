@@ -1,15 +1,16 @@
-ghost use Rattle.std.specs.Prelude.{◌≡◌, [], pos};
-ghost use Rattle.lq_records.specs.declared.log_entry.Kind.TheVariants.{TimeperiodTransition};
+ghost use Rattle.std.specs.Prelude.{◌≡◌};
 ghost use Rattle.lq_log.specs.Entries.{blank};
-ghost use Rattle.lq_log.specs.Forms.{form_named};
+ghost use Rattle.lq_log.specs.Forms.{form_named, no_transition};
 
+use crate::class::{ALERT, CHECK, COMMAND, NOTIFICATION, STATE};
 use crate::field::Field;
 use crate::read::blank;
-use lq_records::{Kind, LogEntry, Text};
+use lq_events::{Kind, LogEntry};
+use lq_records::Text;
 use std::alloc::Global;
 use std::marker::Model;
 
-/// A form of a log line.
+/// A form of a log line: the class and the kind of its entry, and the fields of its text.
 #[derive(Drop)]
 pub(crate) struct LineForm {
     class: u8,
@@ -22,69 +23,41 @@ impl Model for LineForm {
 
     ghost Value = { LineForm };
 
-    ghost view = { λ form. record { class = form.class; kind = form.kind; fields = form.fields.now } };
+    ghost view = { λ form. record {
+      class = form.class;
+      kind = form.kind;
+      fields = form.fields.now;
+    } };
 }
 
 impl LineForm {
-    /// The form with a name.
+    /// The form with a name. None where no form has it.
     pub(crate) fn named(alloc: Global, name: &str) -> Option<Self>
         ensures { result ≡ form_named name.now }
     {
-        match name {
-            "HOST ALERT" => Some(form(1, Kind::HostAlert, HOST_STATE.as_slice())),
-            "SERVICE ALERT" => Some(form(1, Kind::ServiceAlert, SERVICE_STATE.as_slice())),
-            "CURRENT HOST STATE" => Some(form(6, Kind::CurrentHostState, HOST_STATE.as_slice())),
-            "INITIAL HOST STATE" => Some(form(6, Kind::InitialHostState, HOST_STATE.as_slice())),
-            "CURRENT SERVICE STATE" => Some(form(
-                6,
-                Kind::CurrentServiceState,
-                SERVICE_STATE.as_slice(),
-            )),
-            "INITIAL SERVICE STATE" => Some(form(
-                6,
-                Kind::InitialServiceState,
-                SERVICE_STATE.as_slice(),
-            )),
-            "HOST DOWNTIME ALERT" => Some(form(
-                1,
-                Kind::HostDowntimeAlert,
-                HOST_DOWNTIME.as_slice(),
-            )),
-            "SERVICE DOWNTIME ALERT" => Some(form(
-                1,
-                Kind::ServiceDowntimeAlert,
-                SERVICE_DOWNTIME.as_slice(),
-            )),
-            "HOST FLAPPING ALERT" => Some(form(
-                1,
-                Kind::HostFlappingAlert,
-                HOST_FLAPPING.as_slice(),
-            )),
-            "SERVICE FLAPPING ALERT" => Some(form(
-                1,
-                Kind::ServiceFlappingAlert,
-                SERVICE_FLAPPING.as_slice(),
-            )),
-            "HOST NOTIFICATION" => Some(form(
-                3,
-                Kind::HostNotification,
-                HOST_NOTIFICATION.as_slice(),
-            )),
-            "SERVICE NOTIFICATION" => Some(form(
-                3,
+        Some(match name {
+            "HOST ALERT" => form(ALERT, Kind::HostAlert, HOST_STATE),
+            "SERVICE ALERT" => form(ALERT, Kind::ServiceAlert, SERVICE_STATE),
+            "CURRENT HOST STATE" => form(STATE, Kind::CurrentHostState, HOST_STATE),
+            "INITIAL HOST STATE" => form(STATE, Kind::InitialHostState, HOST_STATE),
+            "CURRENT SERVICE STATE" => form(STATE, Kind::CurrentServiceState, SERVICE_STATE),
+            "INITIAL SERVICE STATE" => form(STATE, Kind::InitialServiceState, SERVICE_STATE),
+            "HOST DOWNTIME ALERT" => form(ALERT, Kind::HostDowntimeAlert, HOST_DOWNTIME),
+            "SERVICE DOWNTIME ALERT" => form(ALERT, Kind::ServiceDowntimeAlert, SERVICE_DOWNTIME),
+            "HOST FLAPPING ALERT" => form(ALERT, Kind::HostFlappingAlert, HOST_FLAPPING),
+            "SERVICE FLAPPING ALERT" => form(ALERT, Kind::ServiceFlappingAlert, SERVICE_FLAPPING),
+            "HOST NOTIFICATION" => form(NOTIFICATION, Kind::HostNotification, HOST_NOTIFICATION),
+            "SERVICE NOTIFICATION" => form(
+                NOTIFICATION,
                 Kind::ServiceNotification,
-                SERVICE_NOTIFICATION.as_slice(),
-            )),
-            "EXTERNAL COMMAND" => Some(form(5, Kind::ExternalCommand, NO_FIELDS.as_slice())),
-            "PASSIVE HOST CHECK" => Some(form(4, Kind::PassiveHostCheck, HOST_CHECK.as_slice())),
-            "PASSIVE SERVICE CHECK" => Some(form(
-                4,
-                Kind::PassiveServiceCheck,
-                SERVICE_CHECK.as_slice(),
-            )),
-            "TIMEPERIOD TRANSITION" => Some(form(6, no_transition(alloc), TRANSITION.as_slice())),
-            _ => None,
-        }
+                SERVICE_NOTIFICATION,
+            ),
+            "EXTERNAL COMMAND" => form(COMMAND, Kind::ExternalCommand, NO_FIELDS),
+            "PASSIVE HOST CHECK" => form(CHECK, Kind::PassiveHostCheck, HOST_CHECK),
+            "PASSIVE SERVICE CHECK" => form(CHECK, Kind::PassiveServiceCheck, SERVICE_CHECK),
+            "TIMEPERIOD TRANSITION" => form(STATE, no_transition(alloc), TRANSITION),
+            _ => return None,
+        })
     }
 
     /// The fields of its text, in order.
@@ -114,7 +87,7 @@ fn form(class: u8, kind: Kind, fields: &'static [Field]) -> LineForm
 
 /// A transition of which nothing is known yet.
 fn no_transition(alloc: Global) -> Kind
-    ensures { result ≡ TimeperiodTransition [] (pos 0) (pos 0) }
+    ensures { result ≡ no_transition }
 {
     Kind::TimeperiodTransition {
         name: Text::empty(alloc),
@@ -123,7 +96,7 @@ fn no_transition(alloc: Global) -> Kind
     }
 }
 
-const HOST_STATE: [Field; 5] = [
+const HOST_STATE: &[Field] = &[
     Field::HostName,
     Field::HostState,
     Field::StateType,
@@ -131,7 +104,7 @@ const HOST_STATE: [Field; 5] = [
     Field::PluginOutput,
 ];
 
-const SERVICE_STATE: [Field; 6] = [
+const SERVICE_STATE: &[Field] = &[
     Field::HostName,
     Field::ServiceDescription,
     Field::ServiceState,
@@ -140,25 +113,25 @@ const SERVICE_STATE: [Field; 6] = [
     Field::PluginOutput,
 ];
 
-const HOST_DOWNTIME: [Field; 3] = [Field::HostName, Field::DowntimeWord, Field::Comment];
+const HOST_DOWNTIME: &[Field] = &[Field::HostName, Field::DowntimeWord, Field::Comment];
 
-const SERVICE_DOWNTIME: [Field; 4] = [
+const SERVICE_DOWNTIME: &[Field] = &[
     Field::HostName,
     Field::ServiceDescription,
     Field::DowntimeWord,
     Field::Comment,
 ];
 
-const HOST_FLAPPING: [Field; 3] = [Field::HostName, Field::FlappingWord, Field::Comment];
+const HOST_FLAPPING: &[Field] = &[Field::HostName, Field::FlappingWord, Field::Comment];
 
-const SERVICE_FLAPPING: [Field; 4] = [
+const SERVICE_FLAPPING: &[Field] = &[
     Field::HostName,
     Field::ServiceDescription,
     Field::FlappingWord,
     Field::Comment,
 ];
 
-const HOST_NOTIFICATION: [Field; 5] = [
+const HOST_NOTIFICATION: &[Field] = &[
     Field::ContactName,
     Field::HostName,
     Field::HostWord,
@@ -166,7 +139,7 @@ const HOST_NOTIFICATION: [Field; 5] = [
     Field::PluginOutput,
 ];
 
-const SERVICE_NOTIFICATION: [Field; 6] = [
+const SERVICE_NOTIFICATION: &[Field] = &[
     Field::ContactName,
     Field::HostName,
     Field::ServiceDescription,
@@ -175,15 +148,15 @@ const SERVICE_NOTIFICATION: [Field; 6] = [
     Field::PluginOutput,
 ];
 
-const HOST_CHECK: [Field; 3] = [Field::HostName, Field::Code, Field::PluginOutput];
+const HOST_CHECK: &[Field] = &[Field::HostName, Field::Code, Field::PluginOutput];
 
-const SERVICE_CHECK: [Field; 4] = [
+const SERVICE_CHECK: &[Field] = &[
     Field::HostName,
     Field::ServiceDescription,
     Field::Code,
     Field::PluginOutput,
 ];
 
-const TRANSITION: [Field; 3] = [Field::PeriodName, Field::From, Field::To];
+const TRANSITION: &[Field] = &[Field::PeriodName, Field::From, Field::To];
 
-const NO_FIELDS: [Field; 0] = [];
+const NO_FIELDS: &[Field] = &[];

@@ -3,13 +3,12 @@
 #![tactic(auto)]
 
 mod book;
+mod class;
 mod field;
 mod fill;
 mod form;
 mod read;
 mod split;
-#[cfg(test)]
-mod tests;
 mod words;
 mod written;
 

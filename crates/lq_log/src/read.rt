@@ -4,19 +4,23 @@ ghost use Rattle.std.specs.Option.{option_and_then};
 ghost use Rattle.lq_log.specs.Entries.{blank, entry_of, formed, other, parted, program_beginnings, said};
 ghost use Rattle.lq_log.specs.declared.book.TheConstants.{TIME_LIMIT};
 
+use crate::class;
 use crate::fill::with_fields;
 use crate::form::LineForm;
 use crate::split::{parted, second_and_text};
-use lq_records::{Kind, LogEntry, Memory, Text};
+use lq_events::{Kind, LogEntry};
+use lq_records::{Memory, Text};
 use std::alloc::Global;
 
-/// The entry of a line, where `before` is the time of the entry before it, 0 for the first. None
-/// where no `[`, 1 to 12 digits and `]` stand at its front. A line whose text has the name of a form
-/// and not its fields says nothing but its message and its time. The only error is want of memory.
+/// The entry of a line. `before` is the time of the entry before it, 0 for the first; the entry's
+/// own time is never less. Both are seconds counted from the beginning of 1970. None where no `[`,
+/// 1 to 12 digits and `]` stand at its front. A line whose text has the name of a form and not its
+/// fields says nothing but its message and its time. The only error is running out of memory.
 pub fn read_line(alloc: Global, line: &str, before: u64) -> Result<Option<LogEntry>, Memory>
     ensures read { IfOk result (λ entry. entry ≡ entry_of line.now before) }
     ensures order { IfOk result (λ read. IfSome read (λ entry. before ≤ entry.time)) }
-    ensures below { before < TIME_LIMIT → IfOk result (λ read. IfSome read (λ entry. entry.time < TIME_LIMIT)) }
+    ensures below { before < TIME_LIMIT
+        → IfOk result (λ read. IfSome read (λ entry. entry.time < TIME_LIMIT)) }
 {
     let Some((second, text)) = second_and_text(line) else {
         return Ok(None);
@@ -54,7 +58,11 @@ fn with_form(alloc: Global, text: &str) -> Result<Option<LogEntry>, Memory>
 fn other(alloc: Global, text: &str) -> LogEntry
     ensures { result ≡ other text.now }
 {
-    let class = if is_of_program(text) { 2 } else { 0 };
+    let class = if is_of_program(text) {
+        class::PROGRAM
+    } else {
+        class::OTHER
+    };
     blank(alloc, class, Kind::Other)
 }
 

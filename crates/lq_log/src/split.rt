@@ -2,11 +2,14 @@ ghost use Rattle.std.specs.Prelude.{◌≡◌, ◌+◌, ◌^◌, ◌<◌, ◌==�
 ghost use Rattle.std.specs.Option.{option_map};
 ghost use Rattle.lq_text.specs.Blanks.{is_blank};
 ghost use Rattle.lq_text.specs.Seconds.{second_of, text_behind};
-ghost use Rattle.lq_log.specs.Entries.{parted};
+ghost use Rattle.lq_log.specs.Entries.{colon, parted};
 
 use lq_text::{bracketed_second, is_blank};
 
-/// The second that a line begins with and the text behind it. None where no `[`, 1 to 12 digits and
+/// The bytes of a colon and the blank after it.
+const SEPARATOR_LEN: usize = 2;
+
+/// The second that a line begins with and the text after it. None where no `[`, 1 to 12 digits and
 /// `]` stand at its front.
 pub(crate) fn second_and_text(line: &str) -> Option<(u64, &str)>
     ensures second { option_map (λ found. found.0) result ≡ second_of line.now }
@@ -17,18 +20,19 @@ pub(crate) fn second_and_text(line: &str) -> Option<(u64, &str)>
     Some((second, &line[place..]))
 }
 
-/// What stands before and what stands behind the first colon with a blank after it.
+/// What stands before the first colon with a blank after it, and what follows that blank.
 pub(crate) fn parted(text: &str) -> Option<(&str, &str)>
     ensures { option_map (λ parts. (parts.0.now, parts.1.now)) result ≡ parted text.now }
 {
     let place = colon_place(text.as_bytes())?;
-    Some((&text[..place], &text[place + 2..]))
+    Some((&text[..place], &text[place + SEPARATOR_LEN..]))
 }
 
 /// The place of the first colon with a blank after it.
 fn colon_place(text: &[u8]) -> Option<usize>
-    ensures parts { option_map (λ place. (take place text.now, drop (place + 2) text.now)) result ≡ parted text.now }
-    ensures colon { IfSome result (λ place. slice_index text.now place ≡ 58) }
+    ensures parts { option_map (λ place. (take place text.now, drop (place + 2) text.now)) result
+        ≡ parted text.now }
+    ensures colon { IfSome result (λ place. slice_index text.now place ≡ colon) }
     ensures blank { IfSome result (λ place. IsTrue (is_blank (slice_index text.now (place + 1)))) }
     ensures within { IfSome result (λ place. place + 1 < length text.now) }
 {
@@ -45,7 +49,8 @@ fn colon_place(text: &[u8]) -> Option<usize>
 /// Whether a colon with a blank after it stands at a place.
 fn is_colon(text: &[u8], place: usize) -> bool
     requires { place + 1 < length text.now }
-    ensures { result ≡ ((slice_index text.now place == 58) && is_blank (slice_index text.now (place + 1))) }
+    ensures { result
+        ≡ ((slice_index text.now place == colon) && is_blank (slice_index text.now (place + 1))) }
 {
     text[place] == b':' && is_blank(text[place + 1])
 }

@@ -1,10 +1,10 @@
-ghost use Rattle.std.specs.Prelude.{◌≡◌, ◌-◌, Some, None, if◌then◌else◌, pos, slice_index, unwrap_or, []};
+ghost use Rattle.std.specs.Prelude.{◌≡◌, Some, None, if◌then◌else◌, unwrap_or, []};
 ghost use Rattle.lq_text.specs.Numbers.{number_of};
-ghost use Rattle.lq_log.specs.Fields.{downtime_words, flapping_words, host_states, integer_read, is_attempt, is_code, is_one_of, name_of_state, service_states, state_named, state_types};
+ghost use Rattle.lq_log.specs.Fields.{code_of, downtime_words, flapping_words, host_states, integer_read, is_attempt, is_code, is_one_of, name_of_state, service_states, state_named, state_types};
 
 use lq_text::{read_i64, read_u64};
 
-/// The most digits that an attempt is written with.
+/// The most digits that an attempt is written with. A line with one of ten digits has no form.
 const MOST_ATTEMPT_DIGITS: usize = 9;
 
 /// The number of a host state's name.
@@ -94,7 +94,7 @@ pub(crate) fn attempt(text: &str) -> Option<u32>
 
 /// The state that one digit says, 0 to 3.
 pub(crate) fn code(text: &str) -> Option<i64>
-    ensures { result ≡ (if is_code text.now then Some (pos (slice_index text.now 0 - 48)) else None) }
+    ensures { result ≡ (if is_code text.now then Some (code_of text.now) else None) }
 {
     match text.as_bytes() {
         [digit @ b'0'..=b'3'] => Some(i64::from(*digit - b'0')),
@@ -102,7 +102,7 @@ pub(crate) fn code(text: &str) -> Option<i64>
     }
 }
 
-/// The number that digits behind an optional `-` say.
+/// The number that digits say, with an optional `-` before them.
 pub(crate) fn integer(text: &str) -> Option<i64>
     ensures { result ≡ integer_read text.now }
 {

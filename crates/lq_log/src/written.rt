@@ -2,23 +2,24 @@ ghost use Rattle.std.specs.Prelude.{◌≡◌, ◌<◌, ◌++◌, IfOk, OnOk, So
 ghost use Rattle.std.specs.Fmt.{decimal};
 ghost use Rattle.lq_log.specs.Entries.{entry_of};
 ghost use Rattle.lq_log.specs.declared.book.TheConstants.{TIME_LIMIT};
-ghost use Rattle.lq_log.specs.Written.{alert_name, downtime_name, form_text, host_remark, next_field, object_text, remark, service_remark, stamped, state_word, type_word, written};
+ghost use Rattle.lq_log.specs.Written.{alert_name, downtime_fields, downtime_name, form_text, host_downtime, next_field, object_text, service_downtime, stamped, state_word, type_word, written};
 
 use crate::read::said;
 use crate::words::{host_state_name, service_state_name};
-use lq_records::{LogEntry, Memory, Text};
+use lq_events::LogEntry;
+use lq_records::{Memory, Text};
 use std::alloc::Global;
 
 /// A line that the program writes.
-#[derive(Debug, Drop)]
+#[derive(Drop)]
 pub enum Form {
     /// An external command.
     External {
         /// The command's text, its own second left out.
         text: Text,
     },
-    /// A check's result that changed the state of a host or a service, the type of that state or the
-    /// attempt.
+    /// A check's result that changed the state of a host or a service, the type of that state or
+    /// the attempt.
     Alert {
         host: Text,
         /// The service's description; empty where the host's own state changed.
@@ -41,11 +42,14 @@ pub enum Form {
 }
 
 /// The entry of a line that the program writes at a second, which is counted from the beginning of
-/// 1970: the line with that second in brackets, and what its text says. A second below `TIME_LIMIT`
-/// has at most 12 digits, so that the line reads as the same entry. The only error is want of memory.
+/// 1970. Its message is the line with that second in brackets, and the rest is what the line's
+/// text says. The text is read for it, as it need not say the form's own fields: a host's name with
+/// a `;` reads as two fields. A second below `TIME_LIMIT` has at most 12 digits, so that
+/// `read_line` gives the same entry of the line. The only error is running out of memory.
 pub fn make_line(alloc: Global, time: u64, form: &Form) -> Result<LogEntry, Memory>
     ensures made { IfOk result (λ entry. entry ≡ written time form.now) }
-    ensures own_text { time < TIME_LIMIT → IfOk result (λ entry. entry_of entry.message 0 ≡ Some entry) }
+    ensures own_text { time < TIME_LIMIT
+        → IfOk result (λ entry. entry_of entry.message 0 ≡ Some entry) }
 {
     let text = form_text(alloc, form)?;
     let mut entry = said(alloc, text.as_str())?;
@@ -82,7 +86,8 @@ fn form_text(alloc: Global, form: &Form) -> Result<String, Memory>
             output,
         } => {
             let mut text = alert_start(alloc, host.as_str(), service.as_str(), *state)?;
-            push_result(&mut text, alloc, *hard, *attempt, output.as_str())?;
+            let attempt = attempt.to_string(alloc)?;
+            push_result(&mut text, *hard, attempt.as_str(), output.as_str())?;
             Ok(text)
         }
         Form::Downtime {
@@ -103,7 +108,10 @@ fn external_text(alloc: Global, command: &str) -> Result<String, Memory>
 
 /// The text of an alert up to its state.
 fn alert_start(alloc: Global, host: &str, service: &str, state: i64) -> Result<String, Memory>
-    ensures { IfOk result (λ text. string_bytes text ≡ alert_name service.now ++ object_text host.now service.now ++ next_field (state_word service.now state)) }
+    ensures { IfOk result
+        (λ text. string_bytes text
+        ≡ alert_name service.now ++ object_text host.now service.now
+        ++ next_field (state_word service.now state)) }
 {
     let mut text = String::from_str(alloc, alert_name(service))?;
     push_object(&mut text, host, service)?;
@@ -111,34 +119,35 @@ fn alert_start(alloc: Global, host: &str, service: &str, state: i64) -> Result<S
     Ok(text)
 }
 
-/// Appends the fields of an alert behind its state.
-fn push_result(
-    text: &mut String,
-    alloc: Global,
-    hard: bool,
-    attempt: u32,
-    output: &str,
-) -> Result<(), Memory>
-    ensures { OnOk result (string_bytes text.new ≡ string_bytes text.old ++ next_field (type_word hard) ++ next_field (decimal attempt) ++ next_field output.now) }
+/// Appends the fields of an alert that follow its state.
+fn push_result(text: &mut String, hard: bool, attempt: &str, output: &str) -> Result<(), Memory>
+    ensures { OnOk result
+        (string_bytes text.new
+        ≡ string_bytes text.old ++ next_field (type_word hard) ++ next_field attempt.now
+        ++ next_field output.now) }
 {
     push_field(text, if hard { "HARD" } else { "SOFT" })?;
-    push_field(text, attempt.to_string(alloc)?.as_str())?;
+    push_field(text, attempt)?;
     push_field(text, output)
 }
 
 fn downtime_text(alloc: Global, host: &str, service: &str, word: &str) -> Result<String, Memory>
-    ensures { IfOk result (λ text. string_bytes text ≡ downtime_name service.now ++ object_text host.now service.now ++ next_field (remark service.now word.now)) }
+    ensures { IfOk result
+        (λ text. string_bytes text
+        ≡ downtime_name service.now ++ object_text host.now service.now
+        ++ next_field (downtime_fields service.now word.now)) }
 {
     let mut text = String::from_str(alloc, downtime_name(service))?;
     push_object(&mut text, host, service)?;
-    push_field(&mut text, remark(service, word))?;
+    push_field(&mut text, downtime_fields(service, word))?;
     Ok(text)
 }
 
-/// Appends a host, and a service's description behind it.
+/// Appends a host, and a service's description after it.
 #[tactic(auto, unfolding(crate::specs::Written::object_text))]
 fn push_object(text: &mut String, host: &str, service: &str) -> Result<(), Memory>
-    ensures { OnOk result (string_bytes text.new ≡ string_bytes text.old ++ object_text host.now service.now) }
+    ensures { OnOk result
+        (string_bytes text.new ≡ string_bytes text.old ++ object_text host.now service.now) }
 {
     text.push_str(host)?;
     if service.is_empty() {
@@ -147,7 +156,7 @@ fn push_object(text: &mut String, host: &str, service: &str) -> Result<(), Memor
     push_field(text, service)
 }
 
-/// Appends a field behind another one.
+/// Appends a field after another one.
 fn push_field(text: &mut String, field: &str) -> Result<(), Memory>
     ensures { OnOk result (string_bytes text.new ≡ string_bytes text.old ++ next_field field.now) }
 {
@@ -185,19 +194,19 @@ fn downtime_name(service: &str) -> &'static str
     }
 }
 
-/// The word of a downtime with its remark.
-fn remark(service: &str, word: &str) -> &'static str
-    ensures { result.now ≡ remark service.now word.now }
+/// The word of a downtime, and the comment that follows it.
+fn downtime_fields(service: &str, word: &str) -> &'static str
+    ensures { result.now ≡ downtime_fields service.now word.now }
 {
     if service.is_empty() {
-        host_remark(word)
+        host_downtime(word)
     } else {
-        service_remark(word)
+        service_downtime(word)
     }
 }
 
-fn host_remark(word: &str) -> &'static str
-    ensures { result.now ≡ host_remark word.now }
+fn host_downtime(word: &str) -> &'static str
+    ensures { result.now ≡ host_downtime word.now }
 {
     match word {
         "STARTED" => "STARTED; Host has entered a period of scheduled downtime",
@@ -206,8 +215,8 @@ fn host_remark(word: &str) -> &'static str
     }
 }
 
-fn service_remark(word: &str) -> &'static str
-    ensures { result.now ≡ service_remark word.now }
+fn service_downtime(word: &str) -> &'static str
+    ensures { result.now ≡ service_downtime word.now }
 {
     match word {
         "STARTED" => "STARTED; Service has entered a period of scheduled downtime",

@@ -2,7 +2,8 @@
 use Rattle.std.specs.Prelude.{ℕ, ◌&&◌, Bool, Option, List, [], bytes_eq}
 use Rattle.std.specs.List.{position}
 
--- A name. A service's has two parts: its host's name and its description. Any other has an empty second part.
+-- A name. A service's has two parts: its host's name and its description. Any other has an empty
+-- second part.
 pub record Name : Type 0 where
   pub first : List ℕ
   pub second : List ℕ

@@ -3,8 +3,6 @@
 
 mod name;
 mod name_index;
-#[cfg(test)]
-mod tests;
 
 pub use name::Name;
 pub use name_index::NameIndex;

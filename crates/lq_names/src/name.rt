@@ -7,7 +7,7 @@ use std::marker::Model;
 
 /// A name. A service's has two parts: its host's name and its description. Any other has an empty
 /// second part. Contracts see both parts as their bytes.
-#[derive(Debug, Drop)]
+#[derive(Drop)]
 pub struct Name {
     parts: (String, String),
 }
@@ -18,7 +18,8 @@ impl Model for Name {
 
     ghost Value = { Name };
 
-    ghost view = { λ name. record { first = string_bytes name.parts.0; second = string_bytes name.parts.1 } };
+    ghost view = { λ name.
+        record { first = string_bytes name.parts.0; second = string_bytes name.parts.1 } };
 }
 
 impl Name {

@@ -7,8 +7,8 @@ use indexmap::IndexSet;
 use std::alloc::{AllocError, Global};
 use std::marker::Model;
 
-/// Different names of one kind in order, with the place of each. Contracts see them as a list. There are
-/// fewer than 2 ^ 32.
+/// Different names of one kind in order, with the place of each. Contracts see them as a list.
+/// There are fewer than 2 ^ 32, so that a `u32` holds each place.
 #[derive(Drop)]
 pub struct NameIndex {
     names: IndexSet<(String, String)>,
@@ -20,12 +20,15 @@ impl Model for NameIndex {
 
     ghost Value = { List Name };
 
-    ghost view = { λ index. map (λ key. record { first = string_bytes key.0; second = string_bytes key.1 }) index.names.keys };
+    ghost view = { λ index.
+        map (λ key. record { first = string_bytes key.0; second = string_bytes key.1 })
+        index.names.keys };
 
     ghost invariant = { λ index. length index.names.keys < 2 ^ 32 };
 }
 
-/// The most names that an index holds, far more than there is memory for.
+/// The most names that an index holds, far more than there is memory for. One more is answered as
+/// memory that ran out.
 const MOST_NAMES: usize = 0xFFFF_FFFF;
 
 impl NameIndex {
@@ -64,8 +67,8 @@ impl NameIndex {
         self.find(name).is_some()
     }
 
-    /// Adds a name that isn't there at the end. The only error is want of memory; the names then stay
-    /// as they were.
+    /// Adds at the end a name that isn't there yet. The only error is that memory runs out; the
+    /// names then stay as they were.
     pub fn push(&mut self, name: Name) -> Result<(), AllocError>
         requires { place_of self.old name ≡ None }
         ensures ok { OnOk result (self.new ≡ self.old ++ name ∷ []) }

@@ -23,7 +23,7 @@ use Rattle.lq_objects.specs.Kinds.{reference_directive, references, target}
 use Rattle.lq_names.specs.Names.{Name, is_same, place_of, single}
 use Rattle.lq_objects.specs.Names.{Block, is_of, name_of, named_in, text_or}
 use Rattle.lq_objects.specs.Faults.{decides, fault_if, first_of, is_empty, is_unknown, lacks_name, names_unknown, number_in, unknown_in}
-use Rattle.lq_objects.specs.Objects.{contact_group_ids, contact_ids, distinct, host_ids, host_place, lines_of_kind, number_or, places, places_in, service_ids}
+use Rattle.lq_objects.specs.Objects.{distinct, host_place, ids, lines_of_kind, number_or, places, places_in}
 use Rattle.lq_objects.specs.declared.kind.Kind.{Kind}
 use Rattle.lq_objects.specs.declared.kind.Kind.TheVariants.{Host, Service}
 use Rattle.lq_objects.specs.declared.kind.Reference.{Reference}
@@ -88,19 +88,23 @@ ids-places unwrap wrap back known reference lines {count} size =
     (subst (λ n. ArePlaces n (places known reference lines)) (sym size) (found-places known reference (directive (reference_directive reference) lines)))
 
 pub host_ids-places : (known : Kind → List Name) (reference : Reference) (lines : List Line) {count : ℕ}
-    → count ≡ length (known (target reference)) → ArePlaces count (map (λ id. id.0) (host_ids (places known reference lines)))
+    → count ≡ length (known (target reference))
+    → ArePlaces count (map (λ id. id.0) (ids {Id = HostId} (λ place. record { 0 = place }) known reference lines))
 host_ids-places = ids-places {X = HostId} (λ id. id.0) (λ place. record { 0 = place }) (λ _. refl)
 
 pub service_ids-places : (known : Kind → List Name) (reference : Reference) (lines : List Line) {count : ℕ}
-    → count ≡ length (known (target reference)) → ArePlaces count (map (λ id. id.0) (service_ids (places known reference lines)))
+    → count ≡ length (known (target reference))
+    → ArePlaces count (map (λ id. id.0) (ids {Id = ServiceId} (λ place. record { 0 = place }) known reference lines))
 service_ids-places = ids-places {X = ServiceId} (λ id. id.0) (λ place. record { 0 = place }) (λ _. refl)
 
 pub contact_ids-places : (known : Kind → List Name) (reference : Reference) (lines : List Line) {count : ℕ}
-    → count ≡ length (known (target reference)) → ArePlaces count (map (λ id. id.0) (contact_ids (places known reference lines)))
+    → count ≡ length (known (target reference))
+    → ArePlaces count (map (λ id. id.0) (ids {Id = ContactId} (λ place. record { 0 = place }) known reference lines))
 contact_ids-places = ids-places {X = ContactId} (λ id. id.0) (λ place. record { 0 = place }) (λ _. refl)
 
 pub contact_group_ids-places : (known : Kind → List Name) (reference : Reference) (lines : List Line) {count : ℕ}
-    → count ≡ length (known (target reference)) → ArePlaces count (map (λ id. id.0) (contact_group_ids (places known reference lines)))
+    → count ≡ length (known (target reference))
+    → ArePlaces count (map (λ id. id.0) (ids {Id = ContactGroupId} (λ place. record { 0 = place }) known reference lines))
 contact_group_ids-places = ids-places {X = ContactGroupId} (λ id. id.0) (λ place. record { 0 = place }) (λ _. refl)
 
 -- ---- names that are there

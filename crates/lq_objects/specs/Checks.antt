@@ -7,7 +7,7 @@ use Rattle.lq_objects.specs.declared.fault.Fault.{Fault}
 use Rattle.lq_objects.specs.declared.fault.ObjectsErr.{ObjectsErr}
 use Rattle.lq_objects.specs.declared.fault.ObjectsErr.TheVariants.{At, Memory}
 
--- an error is the fault, or want of memory
+-- an error is the fault, or out of memory
 abbrev pub Tells : ObjectsErr → Option Fault → Type 0
 Tells (At line what) fault = fault ≡ Some (record { line = line; what = what })
 Tells (Memory _) fault = Unit {0}

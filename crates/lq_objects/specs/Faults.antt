@@ -102,7 +102,7 @@ abbrev pub opened_fault : (Kind → List Name) → ℕ → Option Kind → List 
 opened_fault earlier opening kind lines closing =
     option_or (first_of (inner_fault opening kind) lines) (ending_fault earlier opening kind lines closing)
 
--- the fault of a block, by the word behind `define`
+-- the fault of a block, by the word after `define`
 abbrev pub block_fault : (Kind → List Name) → ℕ → Option (List ℕ) → List Line → Option Line → Option Fault
 block_fault earlier opening None lines closing = Some (record { line = opening; what = Stray })
 block_fault earlier opening (Some word) lines closing = opened_fault earlier opening (kind_named word) lines closing

@@ -8,7 +8,7 @@ use Rattle.lq_objects.specs.declared.kind.Reference.TheVariants as reference
 abbrev pub kinds : List Kind
 kinds = Host ∷ Service ∷ HostGroup ∷ ServiceGroup ∷ Contact ∷ ContactGroup ∷ Period ∷ Command ∷ []
 
--- the word behind `define`
+-- the word after `define`
 abbrev pub kind_word : Kind → List ℕ
 kind_word Host = codes "host"
 kind_word Service = codes "service"

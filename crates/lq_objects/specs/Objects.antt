@@ -15,10 +15,6 @@ use Rattle.lq_records.specs.declared.base.Contact.{Contact}
 use Rattle.lq_records.specs.declared.base.ContactGroup.{ContactGroup}
 use Rattle.lq_records.specs.declared.base.Period.{Period}
 use Rattle.lq_records.specs.declared.base.Command.{Command}
-use Rattle.lq_records.specs.declared.ids.HostId.{HostId}
-use Rattle.lq_records.specs.declared.ids.ServiceId.{ServiceId}
-use Rattle.lq_records.specs.declared.ids.ContactId.{ContactId}
-use Rattle.lq_records.specs.declared.ids.ContactGroupId.{ContactGroupId}
 use Rattle.lq_objects.specs.Blocks.{Line, Part, directive, parts_of, telling_lines, value_of}
 use Rattle.lq_objects.specs.Kinds.{reference_directive, target}
 use Rattle.lq_names.specs.Names.{Name, place_of}
@@ -47,17 +43,9 @@ abbrev pub places : (Kind → List Name) → Reference → List Line → List �
 places known reference lines =
     option_map_or (places_in known reference) (directive (reference_directive reference) lines) []
 
-abbrev pub host_ids : List ℕ → List HostId
-host_ids places = map (λ place. record { 0 = place }) places
-
-abbrev pub service_ids : List ℕ → List ServiceId
-service_ids places = map (λ place. record { 0 = place }) places
-
-abbrev pub contact_ids : List ℕ → List ContactId
-contact_ids places = map (λ place. record { 0 = place }) places
-
-abbrev pub contact_group_ids : List ℕ → List ContactGroupId
-contact_group_ids places = map (λ place. record { 0 = place }) places
+-- the ids of the objects at those places, each made of its place by `id_at`
+abbrev pub ids : {Id : Type 0} → (ℕ → Id) → (Kind → List Name) → Reference → List Line → List Id
+ids id_at known reference lines = map id_at (places known reference lines)
 
 -- ---- fields
 
@@ -96,8 +84,8 @@ fields_of known own_name lines = record {
   notification_period = text_or [] (codes "notification_period") lines;
   max_check_attempts = number_or 1 1 1000000 (codes "max_check_attempts") lines;
   notifications_enabled = number_or 1 0 1 (codes "notifications_enabled") lines;
-  contacts = contact_ids (places known reference.Contacts lines);
-  contact_groups = contact_group_ids (places known reference.ContactGroups lines);
+  contacts = ids (λ place. record { 0 = place }) known reference.Contacts lines;
+  contact_groups = ids (λ place. record { 0 = place }) known reference.ContactGroups lines;
   notes = text_or [] (codes "notes") lines;
   notes_url = text_or [] (codes "notes_url") lines;
   action_url = text_or [] (codes "action_url") lines;
@@ -114,7 +102,7 @@ host_of known lines =
       host_name = name;
       alias = text_or name (codes "alias") lines;
       address = text_or [] (codes "address") lines;
-      parents = host_ids (places known reference.Parents lines);
+      parents = ids (λ place. record { 0 = place }) known reference.Parents lines;
       fields = fields_of known name lines;
     }
 
@@ -138,7 +126,7 @@ host_group_of known lines =
     record {
       hostgroup_name = name;
       alias = text_or name (codes "alias") lines;
-      members = host_ids (places known reference.MemberHosts lines);
+      members = ids (λ place. record { 0 = place }) known reference.MemberHosts lines;
       notes = text_or [] (codes "notes") lines;
       notes_url = text_or [] (codes "notes_url") lines;
       action_url = text_or [] (codes "action_url") lines;
@@ -150,7 +138,7 @@ service_group_of known lines =
     record {
       servicegroup_name = name;
       alias = text_or name (codes "alias") lines;
-      members = service_ids (places known reference.MemberServices lines);
+      members = ids (λ place. record { 0 = place }) known reference.MemberServices lines;
       notes = text_or [] (codes "notes") lines;
       notes_url = text_or [] (codes "notes_url") lines;
       action_url = text_or [] (codes "action_url") lines;
@@ -174,7 +162,7 @@ contact_group_of known lines =
     record {
       contactgroup_name = name;
       alias = text_or name (codes "alias") lines;
-      members = contact_ids (places known reference.MemberContacts lines);
+      members = ids (λ place. record { 0 = place }) known reference.MemberContacts lines;
     }
 
 abbrev pub period_of : List Line → Period

@@ -6,7 +6,7 @@ use Rattle.lq_objects.specs.declared.fault.ObjectsErr.TheVariants.{At, Memory}
 use Rattle.lq_objects.specs.declared.fault.ObjectsWhat.{ObjectsWhat}
 use Rattle.lq_objects.specs.declared.fault.ObjectsWhat.TheVariants.{Stray, NotFlattened, BadNumber, NoName, BadName, Twice, TooMany, Unclosed, UnknownName}
 
--- a result is what was read, or want of memory
+-- a result is what was read, or out of memory
 abbrev pub Reads : {X : Type 0} → Result X ObjectsErr → Result X Fault → Type 0
 Reads (Ok found) read = read ≡ Ok found
 Reads (Err (At line what)) read = read ≡ Err (record { line = line; what = what })

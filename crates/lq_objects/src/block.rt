@@ -5,7 +5,7 @@ use crate::line::Line;
 use std::marker::Model;
 
 /// A block of a known kind, with the lines in it.
-#[derive(Debug, Drop)]
+#[derive(Drop)]
 pub(crate) struct Block<'p, 'a> {
     kind: Kind,
     lines: &'p [Line<'a>],

@@ -1,6 +1,7 @@
-ghost use Rattle.std.specs.Prelude.{◌≡◌, ◌<◌};
+ghost use Rattle.std.specs.Prelude.{◌≡◌, ◌<◌, ◌==◌, ◌||◌, length, slice_index};
 ghost use Rattle.std.specs.List.{starts_with};
 ghost use Rattle.std.specs.Option.{option_copied};
+ghost use Rattle.lq_text.specs.Blanks.{is_blank};
 ghost use Rattle.lq_objects.specs.Blocks.{directive, is_named, value_of};
 ghost use Rattle.lq_objects.specs.Faults.{is_bad, is_bad_number, is_template, number_in};
 ghost use Rattle.lq_objects.specs.Objects.{is_variable, variable_name};
@@ -9,11 +10,22 @@ use crate::kind::Kind;
 use crate::line::Line;
 use lq_text::{is_blank, read_u64, trim};
 
-/// Whether a line is the directive with a name.
+/// The most checks that may have to find an object in trouble. One more is a bad number.
+pub(crate) const MOST_ATTEMPTS: u32 = 1_000_000;
+
+/// Whether a line is the directive with a name. Where the name would end is looked at first, since
+/// nearly every other directive fails there, at one byte.
 pub(crate) fn is_named(name: &[u8], text: &[u8]) -> bool
     ensures { result ≡ is_named name.now text.now }
 {
-    text.starts_with(name) && (text.len() == name.len() || is_blank(text[name.len()]))
+    ends_word(text, name.len()) && text.starts_with(name)
+}
+
+/// Whether a word that begins a line may end at a place: the line ends there, or a blank stands there.
+fn ends_word(text: &[u8], at: usize) -> bool
+    ensures { result ≡ ((length text.now == at) || is_blank (slice_index text.now at)) }
+{
+    text.len() == at || (at < text.len() && is_blank(text[at]))
 }
 
 /// The value of a directive's line.
@@ -58,7 +70,7 @@ pub(crate) fn is_bad_number(kind: Kind, text: &[u8]) -> bool
     ensures { result ≡ is_bad_number kind text.now }
 {
     kind.has_numbers()
-        && (is_bad(1, 1_000_000, b"max_check_attempts", text)
+        && (is_bad(1, MOST_ATTEMPTS, b"max_check_attempts", text)
             || is_bad(0, 1, b"notifications_enabled", text))
 }
 

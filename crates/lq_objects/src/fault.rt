@@ -60,14 +60,14 @@ pub enum ObjectsErr {
     /// The number of a line, from 1, and what is wrong there.
     #[error("line {line}: {what}")]
     At { line: u64, what: ObjectsWhat },
-    /// Want of memory.
+    /// Out of memory.
     #[error(transparent)]
     Memory(#[from(alloc)] AllocError),
 }
 
 /// The first fault of an object file, as contracts speak of it: the number of its line, from 1, and
 /// what is wrong there.
-#[derive(Clone, Copy, Debug, PartialEq, Eq)]
+#[derive(Clone, Copy, PartialEq, Eq)]
 pub struct Fault {
     pub line: u64,
     pub what: ObjectsWhat,

@@ -3,8 +3,17 @@ ghost use Rattle.std.specs.Option.{option_copied};
 ghost use Rattle.lq_objects.specs.Faults.{has_numbers};
 ghost use Rattle.lq_objects.specs.Kinds.{kind_named, limit, name_directive, reference_directive, references, second_directive, target};
 
+/// The most hosts, the most contacts, and the most commands. With one more the file is refused.
+const MOST_OBJECTS: usize = 10_000;
+
+/// The most services. With one more the file is refused.
+const MOST_SERVICES: usize = 60_000;
+
+/// The most groups of each kind, and the most time periods. With one more the file is refused.
+const MOST_GROUPS: usize = 1_000;
+
 /// A kind of object that a block may be about.
-#[derive(Clone, Copy, Debug, PartialEq, Eq)]
+#[derive(Clone, Copy, PartialEq, Eq)]
 pub(crate) enum Kind {
     Host,
     Service,
@@ -17,7 +26,7 @@ pub(crate) enum Kind {
 }
 
 impl Kind {
-    /// The kind that the word behind `define` names.
+    /// The kind that the word after `define` names.
     pub(crate) fn named(word: &[u8]) -> Option<Self>
         ensures { result ≡ kind_named word.now }
     {
@@ -47,9 +56,9 @@ impl Kind {
         ensures { result ≡ limit self }
     {
         match self {
-            Kind::Host | Kind::Contact | Kind::Command => 10_000,
-            Kind::Service => 60_000,
-            Kind::HostGroup | Kind::ServiceGroup | Kind::ContactGroup | Kind::Period => 1_000,
+            Kind::Host | Kind::Contact | Kind::Command => MOST_OBJECTS,
+            Kind::Service => MOST_SERVICES,
+            Kind::HostGroup | Kind::ServiceGroup | Kind::ContactGroup | Kind::Period => MOST_GROUPS,
         }
     }
 
@@ -135,7 +144,7 @@ const CONTACT_GROUP_REFERENCES: [Reference; 1] = [Reference::MemberContacts];
 const NO_REFERENCES: [Reference; 0] = [];
 
 /// A directive that names other objects.
-#[derive(Clone, Copy, Debug, PartialEq, Eq)]
+#[derive(Clone, Copy, PartialEq, Eq)]
 pub(crate) enum Reference {
     /// A host's parents.
     Parents,

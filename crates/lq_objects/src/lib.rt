@@ -14,8 +14,6 @@ mod objects;
 mod part;
 mod places;
 mod read;
-#[cfg(test)]
-mod tests;
 mod unknown;
 mod variables;
 

@@ -12,7 +12,7 @@ use std::marker::Model;
 
 /// A line that says something: its number in the file, from 1, and its text without the blanks at
 /// both ends.
-#[derive(Debug, Drop)]
+#[derive(Drop)]
 pub(crate) struct Line<'a> {
     number: u64,
     text: &'a [u8],
@@ -62,7 +62,7 @@ impl<'a> Line<'a> {
         self.text == b"}".as_slice()
     }
 
-    /// The word behind `define`, where the line opens a block.
+    /// The word after `define`, where the line opens a block.
     pub(crate) fn opened_word(&self) -> Option<&'a [u8]>
         ensures { option_copied result ≡ opened_word self.now.text }
     {

@@ -1,19 +1,22 @@
-ghost use Rattle.std.specs.Prelude.{◌≡◌, ◌≤◌, List, [], IfOk};
-ghost use Rattle.lq_objects.specs.Directories.{known};
-ghost use Rattle.lq_objects.specs.Objects.{command_of, contact_group_of, contact_of, fields_of, host_group_of, host_of, number_or, objects_of, period_of, service_group_of, service_of, with_object};
+ghost use Rattle.std.specs.Prelude.{◌≡◌, ◌≤◌, List, [], IfOk, map};
 ghost use Rattle.lq_names.specs.Names.{Name};
+ghost use Rattle.lq_objects.specs.Directories.{known};
+ghost use Rattle.lq_objects.specs.Names.{text_or};
+ghost use Rattle.lq_objects.specs.Objects.{command_of, contact_group_of, contact_of, fields_of};
+ghost use Rattle.lq_objects.specs.Objects.{host_group_of, host_of, number_or, objects_of, period_of};
+ghost use Rattle.lq_objects.specs.Objects.{places, service_group_of, service_of, with_object};
 
 use crate::block::Block;
-use crate::directive::{directive, number_in};
+use crate::directive::{MOST_ATTEMPTS, directive, number_in};
 use crate::directory::Directory;
 use crate::kind::{Kind, Reference};
 use crate::line::Line;
 use crate::name::text_or;
-use crate::places::{contact_group_ids, contact_ids, host_ids, host_place, service_ids};
+use crate::places::{host_place, ids_at, places};
 use crate::variables::custom_variables;
 use lq_records::{
-    Base, Command, Contact, ContactGroup, Host, HostGroup, Items, ObjectFields, Period, Rules,
-    Service, ServiceGroup,
+    Base, Command, Contact, ContactGroup, Host, HostGroup, Id, Items, ObjectFields, Period, Rules,
+    Service, ServiceGroup, Text,
 };
 use std::alloc::{AllocError, Global};
 
@@ -28,7 +31,12 @@ pub(crate) fn objects_of(
 {
     let mut base = empty_base(alloc, rules);
     for block in blocks {
-        base = with_object(alloc, directory, base, block.kind(), block.lines())?;
+        let reader = Reader {
+            alloc,
+            directory,
+            lines: block.lines(),
+        };
+        base = reader.add_to(base, block.kind())?;
     }
     Ok(base)
 }
@@ -50,175 +58,187 @@ fn empty_base(alloc: Global, rules: Rules) -> Base
     }
 }
 
-/// A base with one more object.
-fn with_object(
+/// What the object of a block is read from: the block's lines, and the names of all objects.
+#[derive(Drop)]
+struct Reader<'r, 'a> {
     alloc: Global,
-    directory: &Directory,
-    mut base: Base,
-    kind: Kind,
-    lines: &[Line<'_>],
-) -> Result<Base, AllocError>
-    ensures { IfOk result (λ longer. longer ≡ with_object (known directory.now) base kind lines.now) }
-{
-    match kind {
-        Kind::Host => base.hosts.push(host(alloc, directory, lines)?)?,
-        Kind::Service => base.services.push(service(alloc, directory, lines)?)?,
-        Kind::HostGroup => base.host_groups.push(host_group(alloc, directory, lines)?)?,
-        Kind::ServiceGroup => base
-            .service_groups
-            .push(service_group(alloc, directory, lines)?)?,
-        Kind::Contact => base.contacts.push(contact(alloc, lines)?)?,
-        Kind::ContactGroup => base
-            .contact_groups
-            .push(contact_group(alloc, directory, lines)?)?,
-        Kind::Period => base.periods.push(period(alloc, lines)?)?,
-        Kind::Command => base.commands.push(command(alloc, lines)?)?,
+    directory: &'r Directory,
+    lines: &'r [Line<'a>],
+}
+
+impl<'r, 'a> Reader<'r, 'a> {
+    /// A base with the block's object at the end of its kind.
+    fn add_to(&self, mut base: Base, kind: Kind) -> Result<Base, AllocError>
+        ensures { IfOk result (λ longer. longer
+            ≡ with_object (known self.now.directory.now) base kind self.now.lines.now) }
+    {
+        match kind {
+            Kind::Host => base.hosts.push(self.host()?)?,
+            Kind::Service => base.services.push(self.service()?)?,
+            Kind::HostGroup => base.host_groups.push(self.host_group()?)?,
+            Kind::ServiceGroup => base.service_groups.push(self.service_group()?)?,
+            Kind::Contact => base.contacts.push(self.contact()?)?,
+            Kind::ContactGroup => base.contact_groups.push(self.contact_group()?)?,
+            Kind::Period => base.periods.push(self.period()?)?,
+            Kind::Command => base.commands.push(self.command()?)?,
+        }
+        Ok(base)
     }
-    Ok(base)
+
+    fn host(&self) -> Result<Host, AllocError>
+        ensures { IfOk result (λ host. host ≡ host_of (known self.now.directory.now) self.now.lines.now) }
+    {
+        let host_name = self.text(b"host_name")?;
+        Ok(Host {
+            alias: self.text_or(host_name.as_str(), b"alias")?,
+            address: self.text(b"address")?,
+            parents: self.ids(Reference::Parents)?,
+            fields: self.fields(host_name.as_str())?,
+            host_name,
+        })
+    }
+
+    fn service(&self) -> Result<Service, AllocError>
+        ensures { IfOk result (λ service. service
+            ≡ service_of (known self.now.directory.now) self.now.lines.now) }
+    {
+        let service_description = self.text(b"service_description")?;
+        Ok(Service {
+            host: host_place(self.alloc, self.directory, self.lines)?,
+            fields: self.fields(service_description.as_str())?,
+            service_description,
+        })
+    }
+
+    /// What a host or a service has beside its name.
+    fn fields(&self, own_name: &str) -> Result<ObjectFields, AllocError>
+        ensures { IfOk result (λ fields. fields
+            ≡ fields_of (known self.now.directory.now) own_name.now self.now.lines.now) }
+    {
+        Ok(ObjectFields {
+            display_name: self.text_or(own_name, b"display_name")?,
+            check_command: self.text(b"check_command")?,
+            check_period: self.text(b"check_period")?,
+            notification_period: self.text(b"notification_period")?,
+            max_check_attempts: number_or_one(1, MOST_ATTEMPTS, b"max_check_attempts", self.lines),
+            notifications_enabled: number_or_one(0, 1, b"notifications_enabled", self.lines) as u8,
+            contacts: self.ids(Reference::Contacts)?,
+            contact_groups: self.ids(Reference::ContactGroups)?,
+            notes: self.text(b"notes")?,
+            notes_url: self.text(b"notes_url")?,
+            action_url: self.text(b"action_url")?,
+            icon_image: self.text(b"icon_image")?,
+            custom_variables: custom_variables(self.alloc, self.lines)?,
+        })
+    }
+
+    fn host_group(&self) -> Result<HostGroup, AllocError>
+        ensures { IfOk result (λ group. group
+            ≡ host_group_of (known self.now.directory.now) self.now.lines.now) }
+    {
+        let hostgroup_name = self.text(b"hostgroup_name")?;
+        Ok(HostGroup {
+            alias: self.text_or(hostgroup_name.as_str(), b"alias")?,
+            members: self.ids(Reference::MemberHosts)?,
+            notes: self.text(b"notes")?,
+            notes_url: self.text(b"notes_url")?,
+            action_url: self.text(b"action_url")?,
+            hostgroup_name,
+        })
+    }
+
+    fn service_group(&self) -> Result<ServiceGroup, AllocError>
+        ensures { IfOk result (λ group. group
+            ≡ service_group_of (known self.now.directory.now) self.now.lines.now) }
+    {
+        let servicegroup_name = self.text(b"servicegroup_name")?;
+        Ok(ServiceGroup {
+            alias: self.text_or(servicegroup_name.as_str(), b"alias")?,
+            members: self.ids(Reference::MemberServices)?,
+            notes: self.text(b"notes")?,
+            notes_url: self.text(b"notes_url")?,
+            action_url: self.text(b"action_url")?,
+            servicegroup_name,
+        })
+    }
+
+    fn contact(&self) -> Result<Contact, AllocError>
+        ensures { IfOk result (λ contact. contact ≡ contact_of self.now.lines.now) }
+    {
+        let contact_name = self.text(b"contact_name")?;
+        Ok(Contact {
+            alias: self.text_or(contact_name.as_str(), b"alias")?,
+            email: self.text(b"email")?,
+            pager: self.text(b"pager")?,
+            host_notification_period: self.text(b"host_notification_period")?,
+            service_notification_period: self.text(b"service_notification_period")?,
+            contact_name,
+        })
+    }
+
+    fn contact_group(&self) -> Result<ContactGroup, AllocError>
+        ensures { IfOk result (λ group. group
+            ≡ contact_group_of (known self.now.directory.now) self.now.lines.now) }
+    {
+        let contactgroup_name = self.text(b"contactgroup_name")?;
+        Ok(ContactGroup {
+            alias: self.text_or(contactgroup_name.as_str(), b"alias")?,
+            members: self.ids(Reference::MemberContacts)?,
+            contactgroup_name,
+        })
+    }
+
+    fn period(&self) -> Result<Period, AllocError>
+        ensures { IfOk result (λ period. period ≡ period_of self.now.lines.now) }
+    {
+        let timeperiod_name = self.text(b"timeperiod_name")?;
+        Ok(Period {
+            alias: self.text_or(timeperiod_name.as_str(), b"alias")?,
+            timeperiod_name,
+        })
+    }
+
+    fn command(&self) -> Result<Command, AllocError>
+        ensures { IfOk result (λ command. command ≡ command_of self.now.lines.now) }
+    {
+        Ok(Command {
+            command_name: self.text(b"command_name")?,
+            command_line: self.text(b"command_line")?,
+        })
+    }
+
+    /// The text of a directive, empty where it is absent.
+    fn text(&self, name: &[u8]) -> Result<Text, AllocError>
+        ensures { IfOk result (λ text. text ≡ text_or [] name.now self.now.lines.now) }
+    {
+        text_or(self.alloc, "", name, self.lines)
+    }
+
+    /// The text of a directive, or another text where it is absent.
+    fn text_or(&self, absent: &str, name: &[u8]) -> Result<Text, AllocError>
+        ensures { IfOk result (λ text. text ≡ text_or absent.now name.now self.now.lines.now) }
+    {
+        text_or(self.alloc, absent, name, self.lines)
+    }
+
+    /// The objects that a directive names.
+    fn ids<T: Id>(&self, reference: Reference) -> Result<Items<T>, AllocError>
+        ensures { IfOk result (λ ids. ids
+            ≡ map T.id_at (places (known self.now.directory.now) reference self.now.lines.now)) }
+    {
+        let places = places(self.alloc, self.directory, reference, self.lines)?;
+        ids_at(self.alloc, places.as_slice())
+    }
 }
 
-/// What a host or a service has beside its name.
-fn fields(
-    alloc: Global,
-    directory: &Directory,
-    own_name: &str,
-    lines: &[Line<'_>],
-) -> Result<ObjectFields, AllocError>
-    ensures { IfOk result (λ fields. fields ≡ fields_of (known directory.now) own_name.now lines.now) }
-{
-    Ok(ObjectFields {
-        display_name: text_or(alloc, own_name, b"display_name", lines)?,
-        check_command: text_or(alloc, "", b"check_command", lines)?,
-        check_period: text_or(alloc, "", b"check_period", lines)?,
-        notification_period: text_or(alloc, "", b"notification_period", lines)?,
-        max_check_attempts: number_or(1, 1, 1_000_000, b"max_check_attempts", lines),
-        notifications_enabled: number_or(1, 0, 1, b"notifications_enabled", lines) as u8,
-        contacts: contact_ids(alloc, directory, Reference::Contacts, lines)?,
-        contact_groups: contact_group_ids(alloc, directory, Reference::ContactGroups, lines)?,
-        notes: text_or(alloc, "", b"notes", lines)?,
-        notes_url: text_or(alloc, "", b"notes_url", lines)?,
-        action_url: text_or(alloc, "", b"action_url", lines)?,
-        icon_image: text_or(alloc, "", b"icon_image", lines)?,
-        custom_variables: custom_variables(alloc, lines)?,
-    })
-}
-
-/// The number of a directive that is in its range, or another one in its absence.
-fn number_or(absent: u32, least: u32, most: u32, name: &[u8], lines: &[Line<'_>]) -> u32
-    requires { absent ≤ most }
-    ensures value { result ≡ number_or absent least most name.now lines.now }
+/// The number of a directive that is in its range, or 1 in its absence.
+fn number_or_one(least: u32, most: u32, name: &[u8], lines: &[Line<'_>]) -> u32
+    requires { 1 ≤ most }
+    ensures value { result ≡ number_or 1 least most name.now lines.now }
     ensures within { result ≤ most }
 {
     match directive(name, lines) {
-        Some(value) => number_in(least, most, value).unwrap_or(absent),
-        None => absent,
+        Some(value) => number_in(least, most, value).unwrap_or(1),
+        None => 1,
     }
-}
-
-fn host(alloc: Global, directory: &Directory, lines: &[Line<'_>]) -> Result<Host, AllocError>
-    ensures { IfOk result (λ host. host ≡ host_of (known directory.now) lines.now) }
-{
-    let host_name = text_or(alloc, "", b"host_name", lines)?;
-    Ok(Host {
-        alias: text_or(alloc, host_name.as_str(), b"alias", lines)?,
-        address: text_or(alloc, "", b"address", lines)?,
-        parents: host_ids(alloc, directory, Reference::Parents, lines)?,
-        fields: fields(alloc, directory, host_name.as_str(), lines)?,
-        host_name,
-    })
-}
-
-fn service(alloc: Global, directory: &Directory, lines: &[Line<'_>]) -> Result<Service, AllocError>
-    ensures { IfOk result (λ service. service ≡ service_of (known directory.now) lines.now) }
-{
-    let service_description = text_or(alloc, "", b"service_description", lines)?;
-    Ok(Service {
-        host: host_place(alloc, directory, lines)?,
-        fields: fields(alloc, directory, service_description.as_str(), lines)?,
-        service_description,
-    })
-}
-
-fn host_group(
-    alloc: Global,
-    directory: &Directory,
-    lines: &[Line<'_>],
-) -> Result<HostGroup, AllocError>
-    ensures { IfOk result (λ group. group ≡ host_group_of (known directory.now) lines.now) }
-{
-    let hostgroup_name = text_or(alloc, "", b"hostgroup_name", lines)?;
-    Ok(HostGroup {
-        alias: text_or(alloc, hostgroup_name.as_str(), b"alias", lines)?,
-        members: host_ids(alloc, directory, Reference::MemberHosts, lines)?,
-        notes: text_or(alloc, "", b"notes", lines)?,
-        notes_url: text_or(alloc, "", b"notes_url", lines)?,
-        action_url: text_or(alloc, "", b"action_url", lines)?,
-        hostgroup_name,
-    })
-}
-
-fn service_group(
-    alloc: Global,
-    directory: &Directory,
-    lines: &[Line<'_>],
-) -> Result<ServiceGroup, AllocError>
-    ensures { IfOk result (λ group. group ≡ service_group_of (known directory.now) lines.now) }
-{
-    let servicegroup_name = text_or(alloc, "", b"servicegroup_name", lines)?;
-    Ok(ServiceGroup {
-        alias: text_or(alloc, servicegroup_name.as_str(), b"alias", lines)?,
-        members: service_ids(alloc, directory, Reference::MemberServices, lines)?,
-        notes: text_or(alloc, "", b"notes", lines)?,
-        notes_url: text_or(alloc, "", b"notes_url", lines)?,
-        action_url: text_or(alloc, "", b"action_url", lines)?,
-        servicegroup_name,
-    })
-}
-
-fn contact(alloc: Global, lines: &[Line<'_>]) -> Result<Contact, AllocError>
-    ensures { IfOk result (λ contact. contact ≡ contact_of lines.now) }
-{
-    let contact_name = text_or(alloc, "", b"contact_name", lines)?;
-    Ok(Contact {
-        alias: text_or(alloc, contact_name.as_str(), b"alias", lines)?,
-        email: text_or(alloc, "", b"email", lines)?,
-        pager: text_or(alloc, "", b"pager", lines)?,
-        host_notification_period: text_or(alloc, "", b"host_notification_period", lines)?,
-        service_notification_period: text_or(alloc, "", b"service_notification_period", lines)?,
-        contact_name,
-    })
-}
-
-fn contact_group(
-    alloc: Global,
-    directory: &Directory,
-    lines: &[Line<'_>],
-) -> Result<ContactGroup, AllocError>
-    ensures { IfOk result (λ group. group ≡ contact_group_of (known directory.now) lines.now) }
-{
-    let contactgroup_name = text_or(alloc, "", b"contactgroup_name", lines)?;
-    Ok(ContactGroup {
-        alias: text_or(alloc, contactgroup_name.as_str(), b"alias", lines)?,
-        members: contact_ids(alloc, directory, Reference::MemberContacts, lines)?,
-        contactgroup_name,
-    })
-}
-
-fn period(alloc: Global, lines: &[Line<'_>]) -> Result<Period, AllocError>
-    ensures { IfOk result (λ period. period ≡ period_of lines.now) }
-{
-    let timeperiod_name = text_or(alloc, "", b"timeperiod_name", lines)?;
-    Ok(Period {
-        alias: text_or(alloc, timeperiod_name.as_str(), b"alias", lines)?,
-        timeperiod_name,
-    })
-}
-
-fn command(alloc: Global, lines: &[Line<'_>]) -> Result<Command, AllocError>
-    ensures { IfOk result (λ command. command ≡ command_of lines.now) }
-{
-    Ok(Command {
-        command_name: text_or(alloc, "", b"command_name", lines)?,
-        command_line: text_or(alloc, "", b"command_line", lines)?,
-    })
 }

@@ -7,7 +7,7 @@ use crate::line::Line;
 
 /// A part of the file: the lines up to a line `}`, and that line. It lacks at the end of the file
 /// alone.
-#[derive(Debug, Drop)]
+#[derive(Drop)]
 pub(crate) struct Part<'p, 'a> {
     pub(crate) lines: &'p [Line<'a>],
     pub(crate) closing: Option<&'p Line<'a>>,

@@ -2,7 +2,7 @@ ghost use Rattle.std.specs.Prelude.{◌≡◌, IfOk, map};
 ghost use Rattle.std.specs.List.{filter_map};
 ghost use Rattle.lq_objects.specs.Directories.{known};
 ghost use Rattle.lq_names.specs.Names.{place_of};
-ghost use Rattle.lq_objects.specs.Objects.{contact_group_ids, contact_ids, distinct, host_ids, host_place, places, service_ids};
+ghost use Rattle.lq_objects.specs.Objects.{distinct, host_place, places};
 
 use crate::directive::directive;
 use crate::directory::Directory;
@@ -11,7 +11,7 @@ use crate::line::Line;
 use crate::names::named_in;
 use indexmap::IndexSet;
 use lq_names::{Name, NameIndex};
-use lq_records::{ContactGroupId, ContactId, HostId, Items, ServiceId};
+use lq_records::{HostId, Id, Items};
 use std::alloc::{AllocError, Global};
 
 /// The places of the objects that a block's directive names, in order and without repeats.
@@ -63,74 +63,10 @@ pub(crate) fn host_place(
     })
 }
 
-/// The hosts that a block's directive names.
-pub(crate) fn host_ids(
-    alloc: Global,
-    directory: &Directory,
-    reference: Reference,
-    lines: &[Line<'_>],
-) -> Result<Items<HostId>, AllocError>
-    ensures { IfOk result (λ ids. ids ≡ host_ids (places (known directory.now) reference lines.now)) }
+/// The ids of the objects at places.
+pub(crate) fn ids_at<T: Id>(alloc: Global, places: &[u32]) -> Result<Items<T>, AllocError>
+    ensures { IfOk result (λ ids. ids ≡ map T.id_at places.now) }
 {
-    let places = places(alloc, directory, reference, lines)?;
-    let ids: Vec<HostId> = places
-        .as_slice()
-        .iter()
-        .map(|place| HostId(*place))
-        .collect(alloc)?;
-    Ok(Items::from_vec(ids))
-}
-
-/// The services that a service group names.
-pub(crate) fn service_ids(
-    alloc: Global,
-    directory: &Directory,
-    reference: Reference,
-    lines: &[Line<'_>],
-) -> Result<Items<ServiceId>, AllocError>
-    ensures { IfOk result (λ ids. ids ≡ service_ids (places (known directory.now) reference lines.now)) }
-{
-    let places = places(alloc, directory, reference, lines)?;
-    let ids: Vec<ServiceId> = places
-        .as_slice()
-        .iter()
-        .map(|place| ServiceId(*place))
-        .collect(alloc)?;
-    Ok(Items::from_vec(ids))
-}
-
-/// The contacts that a block's directive names.
-pub(crate) fn contact_ids(
-    alloc: Global,
-    directory: &Directory,
-    reference: Reference,
-    lines: &[Line<'_>],
-) -> Result<Items<ContactId>, AllocError>
-    ensures { IfOk result (λ ids. ids ≡ contact_ids (places (known directory.now) reference lines.now)) }
-{
-    let places = places(alloc, directory, reference, lines)?;
-    let ids: Vec<ContactId> = places
-        .as_slice()
-        .iter()
-        .map(|place| ContactId(*place))
-        .collect(alloc)?;
-    Ok(Items::from_vec(ids))
-}
-
-/// The contact groups that a block's directive names.
-pub(crate) fn contact_group_ids(
-    alloc: Global,
-    directory: &Directory,
-    reference: Reference,
-    lines: &[Line<'_>],
-) -> Result<Items<ContactGroupId>, AllocError>
-    ensures { IfOk result (λ ids. ids ≡ contact_group_ids (places (known directory.now) reference lines.now)) }
-{
-    let places = places(alloc, directory, reference, lines)?;
-    let ids: Vec<ContactGroupId> = places
-        .as_slice()
-        .iter()
-        .map(|place| ContactGroupId(*place))
-        .collect(alloc)?;
+    let ids: Vec<T> = places.iter().map(|place| T::at(*place)).collect(alloc)?;
     Ok(Items::from_vec(ids))
 }

@@ -26,7 +26,7 @@ use std::alloc::{AllocError, Global};
 /// become U+FFFD. The base is sound: the names of a kind differ and none is empty, each id is a
 /// place in the list of its kind, and no list is longer than its limit. `ObjectsErr::At` comes
 /// exactly where the file has a fault, with the first one: by its line, and in one line in the order
-/// of `ObjectsWhat`, names that aren't there after all others. Else an error is want of memory.
+/// of `ObjectsWhat`, names that aren't there after all others. Any other error is that memory ran out.
 pub fn read_objects(alloc: Global, b: &[u8], rules: Rules) -> Result<Base, ObjectsErr>
     ensures reads { Reads result (base_of b.now rules) }
     ensures sound { IfOk result IsSound }

@@ -27,10 +27,12 @@ pub record HasLoadCause {T : Type 0} (before now : ℕ) (result : Result T LoadE
 -- what the answer says of the file, and of the most bytes asked for. The file is not told, or it is
 -- told to be missing, or told with its bytes.
 abbrev pub Loads : Option (Option (List ℕ)) → ℕ → Result (Vec ℕ) LoadErr → Type 0
-Loads file most (Ok bytes) = (length bytes.items ≤ most) × IfSome file (λ there. there ≡ Some bytes.items)
+Loads file most (Ok bytes) =
+    (length bytes.items ≤ most) × IfSome file (λ there. there ≡ Some bytes.items)
 Loads file most (Err Missing) = IfSome file (λ there. there ≡ None)
 Loads file most (Err Failed) = IfSome file (λ there. IsSome there)
-Loads file most (Err TooLarge) = IfSome file (λ there. IsSomeAnd there (λ bytes. most < length bytes))
+Loads file most (Err TooLarge) =
+    IfSome file (λ there. IsSomeAnd there (λ bytes. most < length bytes))
 Loads file most (Err Memory) = Unit {0}
 
 -- the count after a load: one more where the answer is a fault

@@ -4,11 +4,11 @@ use std::alloc::AllocError;
 use std::error::Error;
 use std::fmt;
 
-/// Want of memory.
+/// The error of a call that ran out of memory.
 pub type Memory = AllocError;
 
 /// A read or a write failed, and the count of faults rose.
-#[derive(Clone, Copy, Debug, PartialEq, Eq, Hash)]
+#[derive(Clone, Copy, Debug, PartialEq, Eq)]
 pub struct Failed;
 
 impl fmt::Display for Failed {

@@ -6,7 +6,7 @@ use std::error::Error;
 use std::fmt;
 
 /// Why a file was not loaded.
-#[derive(Clone, Copy, Debug, PartialEq, Eq, Hash)]
+#[derive(Clone, Copy, Debug, PartialEq, Eq)]
 pub enum LoadErr {
     /// Nothing is there at the path. The count of faults rose.
     Missing,
@@ -14,7 +14,7 @@ pub enum LoadErr {
     Failed,
     /// The file has more bytes than the call allows. This is no fault.
     TooLarge,
-    /// Want of memory. This is no fault.
+    /// Memory ran out. This is no fault.
     Memory,
 }
 
@@ -45,6 +45,7 @@ pub trait Files {
     ghost faults: { Self → ℕ };
 
     /// Returns all bytes of the file at `path`, which may be at most `most`. No load changes a file.
+    /// A read that a signal interrupts is taken again.
     fn load(&mut self, alloc: Global, path: &str, most: u64) -> Result<Vec<u8>, LoadErr>
         ensures loads { Loads (held_at self.old path.now) most result }
         ensures cause { HasLoadCause (faults self.old) (faults self.new) result }

@@ -2,7 +2,8 @@
 //! standard library of each.
 //!
 //! Each form counts its faults. The count never falls, and an answer that is a fault comes only
-//! where the count rose in that call. A count stops at the largest `u64`, and counts as risen there.
+//! where the count rose in that call. A count stops at the largest `u64`, and counts as risen
+//! there.
 #![tactic(auto)]
 
 mod failed;
@@ -18,8 +19,6 @@ mod std_files;
 mod std_sink;
 mod std_source;
 mod steady;
-#[cfg(test)]
-mod tests;
 mod unread;
 
 pub use failed::{Failed, Memory};

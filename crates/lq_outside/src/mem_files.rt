@@ -11,7 +11,7 @@ use std::marker::Model;
 
 /// Files in memory. A load of a path that is not held is a fault. A load of one that is held fails
 /// where its number is given, counted from 0. No other load is a fault.
-#[derive(Debug, Drop)]
+#[derive(Drop)]
 pub struct MemFiles {
     pairs: Vec<(String, Vec<u8>)>,
     plan: Plan,
@@ -96,7 +96,8 @@ impl Files for MemFiles {
         ensures cause { HasLoadCause self.old.faults self.new.faults result }
 
         // `Missing` comes before the number of the call is looked at, and that before the length.
-        ensures missing { (result ≡ Err LoadErr.Missing) ↔ IsNone (held_in self.old.pairs path.now) }
+        ensures missing { (result ≡ Err LoadErr.Missing) ↔
+            IsNone (held_in self.old.pairs path.now) }
         ensures failed { (result ≡ Err LoadErr.Failed) ↔
             (IsSome (held_in self.old.pairs path.now) × Contains self.old.fail_at self.old.calls) }
         ensures large { (result ≡ Err LoadErr.TooLarge) ↔

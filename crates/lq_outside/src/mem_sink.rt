@@ -11,7 +11,7 @@ use std::marker::Model;
 
 /// A sink that keeps its bytes in memory. A write fails where its number is given, counted from 0,
 /// or where it finds no room for the piece; each other write takes the whole piece.
-#[derive(Debug, Drop)]
+#[derive(Drop)]
 pub struct MemSink {
     bytes: Vec<u8>,
     plan: Plan,
@@ -73,7 +73,8 @@ impl Sink for MemSink {
         ensures some { IfOk result (λ n. 0 < length piece.now → 0 < n) }
         ensures cause { HasCause self.old.faults self.new.faults result }
 
-        // It fails at each number given, and else only where it has no room. Its count rises only there.
+        // It fails at each number given, and else only where it has no room. Its count rises only
+        // there.
         ensures fails { Contains self.old.fail_at self.old.calls → IsErr result }
         ensures why { OnErr result
             (Contains self.old.fail_at self.old.calls ⊎ (self.old.room < length piece.now)) }

@@ -10,8 +10,9 @@ use crate::unread::Unread;
 use std::alloc::Global;
 use std::marker::Model;
 
-/// Bytes in memory as a source. The reads whose numbers are given fail, counted from 0, and no other.
-#[derive(Debug, Drop)]
+/// Bytes in memory as a source. The reads whose numbers are given fail, counted from 0, and no
+/// other.
+#[derive(Drop)]
 pub struct MemSource {
     unread: Unread,
     plan: Plan,

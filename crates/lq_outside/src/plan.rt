@@ -4,7 +4,7 @@ ghost use Rattle.lq_outside.specs.Faults.{next_count};
 use std::marker::Model;
 
 // The calls that a form in memory is to fail, by number from 0, and its counts.
-#[derive(Debug, Drop)]
+#[derive(Drop)]
 pub(crate) struct Plan {
     fail_at: Vec<u64>,
     calls: u64,

@@ -9,7 +9,7 @@ use std::alloc::Global;
 use std::marker::Model;
 
 /// Bytes in memory as a source that never fails.
-#[derive(Debug, Drop)]
+#[derive(Drop)]
 pub struct SteadySource {
     unread: Unread,
 }

@@ -3,7 +3,7 @@ ghost use Rattle.std.specs.Prelude.{◌≡◌, ◌++◌, length, take, drop, min
 use std::marker::Model;
 
 // The bytes that a source in memory has left.
-#[derive(Debug, Drop)]
+#[derive(Drop)]
 pub(crate) struct Unread {
     bytes: Vec<u8>,
     at: usize,

@@ -1,2 +1,1 @@
 pub mod CleanLemmas
-pub mod SchemaLemmas

@@ -13,21 +13,23 @@ bytes_left None = 0
 bytes_left (Some []) = 0
 bytes_left (Some (byte ∷ bytes)) = length bytes
 
--- U+FFFD
+-- the character U+FFFD
 abbrev pub replacement : List ℕ
 replacement = encode_utf8 0xFFFD
 
--- the first byte of a character is kept, and one at which none begins becomes U+FFFD
+-- the first byte of a character is kept, and a byte at which none begins becomes U+FFFD
 abbrev pub cleaned_byte : Option (List ℕ) → ℕ → List ℕ
 cleaned_byte None byte = replacement
 cleaned_byte (Some char) byte = byte ∷ []
 
--- the same of all bytes, where the first ones may be left of a character
+-- the text of bytes, the first `left` of which belong to a character that began before them
 abbrev pub cleaned_after : ℕ → List ℕ → List ℕ
 cleaned_after left [] = []
 cleaned_after (suc left) (byte ∷ bytes) = byte ∷ cleaned_after left bytes
 cleaned_after zero (byte ∷ bytes) =
-    let char = first_char (byte ∷ bytes) in cleaned_byte char byte ++ cleaned_after (bytes_left char) bytes
+    let char = first_char (byte ∷ bytes) in
+    cleaned_byte char byte ++ cleaned_after (bytes_left char) bytes
 
+-- the text of bytes
 unfoldable pub cleaned : List ℕ → List ℕ
 cleaned bytes = cleaned_after 0 bytes

@@ -1,7 +1,3 @@
 pub mod Clean
-pub mod Kinds
-pub mod Names
-pub mod Order
-pub mod Schema
+pub mod Object
 pub mod Sound
-pub mod Value

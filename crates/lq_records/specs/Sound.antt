@@ -16,7 +16,7 @@ pub record ArePlaces (count : ℕ) (places : List ℕ) : Type 0 where
   pub different : AllPairs (λ a b. a ≢ b) places
   pub within : All (λ place. place < count) places
 
--- a name has no `;`
+-- a name has no `;`, whose byte is 59
 abbrev pub IsPlain : List ℕ → Type 0
 IsPlain name = list_any (λ byte. byte == 59) name ≡ false
 
@@ -28,7 +28,8 @@ pub record AreSoundFields (base : Base) (fields : ObjectFields) : Type 0 where
   pub attempts_most : fields.max_check_attempts ≤ 1000000
   pub notifications : fields.notifications_enabled ≤ 1
   pub contacts : ArePlaces (length base.contacts) (map (λ id. id.0) fields.contacts)
-  pub contact_groups : ArePlaces (length base.contact_groups) (map (λ id. id.0) fields.contact_groups)
+  pub contact_groups :
+      ArePlaces (length base.contact_groups) (map (λ id. id.0) fields.contact_groups)
 
 pub record AreLimited (base : Base) : Type 0 where
   pub hosts : length base.hosts ≤ 10000
@@ -42,7 +43,9 @@ pub record AreLimited (base : Base) : Type 0 where
 
 pub record AreNamed (base : Base) : Type 0 where
   pub hosts : AreNames (map (λ host. host.host_name) base.hosts)
-  pub services : AllPairs (λ a b. (a.host ≡ b.host → a.service_description ≢ b.service_description)) base.services
+  pub services :
+      AllPairs (λ a b. (a.host ≡ b.host → a.service_description ≢ b.service_description))
+      base.services
   pub descriptions : All (λ service. service.service_description ≢ []) base.services
   pub host_groups : AreNames (map (λ group. group.hostgroup_name) base.host_groups)
   pub service_groups : AreNames (map (λ group. group.servicegroup_name) base.service_groups)
@@ -54,16 +57,22 @@ pub record AreNamed (base : Base) : Type 0 where
   pub plain_services : All (λ service. IsPlain service.service_description) base.services
 
 pub record AreLinked (base : Base) : Type 0 where
-  pub parents : All (λ host. ArePlaces (length base.hosts) (map (λ id. id.0) host.parents)) base.hosts
+  pub parents :
+      All (λ host. ArePlaces (length base.hosts) (map (λ id. id.0) host.parents)) base.hosts
   pub host_fields : All (λ host. AreSoundFields base host.fields) base.hosts
   pub service_hosts : All (λ service. service.host.0 < length base.hosts) base.services
   pub service_fields : All (λ service. AreSoundFields base service.fields) base.services
-  pub host_groups : All (λ group. ArePlaces (length base.hosts) (map (λ id. id.0) group.members)) base.host_groups
-  pub service_groups : All (λ group. ArePlaces (length base.services) (map (λ id. id.0) group.members)) base.service_groups
-  pub contact_groups : All (λ group. ArePlaces (length base.contacts) (map (λ id. id.0) group.members)) base.contact_groups
+  pub host_groups :
+      All (λ group. ArePlaces (length base.hosts) (map (λ id. id.0) group.members)) base.host_groups
+  pub service_groups :
+      All (λ group. ArePlaces (length base.services) (map (λ id. id.0) group.members))
+      base.service_groups
+  pub contact_groups :
+      All (λ group. ArePlaces (length base.contacts) (map (λ id. id.0) group.members))
+      base.contact_groups
 
--- its names are those of different objects, its ids are places in its lists, its numbers are in their
--- ranges, and its lists within the limits
+-- its names are those of different objects, its ids are places in its lists, its numbers are in
+-- their ranges, and its lists are within the limits
 pub record IsSound (base : Base) : Type 0 where
   pub limited : AreLimited base
   pub named : AreNamed base

@@ -5,7 +5,7 @@ use crate::items::Items;
 use crate::text::Text;
 
 /// The directives that hosts and services share.
-#[derive(Debug, Drop)]
+#[derive(Drop)]
 pub struct ObjectFields {
     /// The name that people see. Where it isn't given, the object's own name.
     pub display_name: Text,
@@ -37,7 +37,7 @@ pub struct ObjectFields {
 }
 
 /// A host as the object file says it.
-#[derive(Debug, Drop)]
+#[derive(Drop)]
 pub struct Host {
     /// The name by which queries and other objects speak of it.
     pub host_name: Text,
@@ -52,7 +52,7 @@ pub struct Host {
 }
 
 /// A service as the object file says it.
-#[derive(Debug, Drop)]
+#[derive(Drop)]
 pub struct Service {
     /// The host that it runs on.
     pub host: HostId,
@@ -63,7 +63,7 @@ pub struct Service {
 }
 
 /// A group of hosts.
-#[derive(Debug, Drop)]
+#[derive(Drop)]
 pub struct HostGroup {
     pub hostgroup_name: Text,
     /// A longer name, for people.
@@ -76,7 +76,7 @@ pub struct HostGroup {
 }
 
 /// A group of services.
-#[derive(Debug, Drop)]
+#[derive(Drop)]
 pub struct ServiceGroup {
     pub servicegroup_name: Text,
     /// A longer name, for people.
@@ -89,7 +89,7 @@ pub struct ServiceGroup {
 }
 
 /// Who is told about hosts and services, and may see them.
-#[derive(Debug, Drop)]
+#[derive(Drop)]
 pub struct Contact {
     pub contact_name: Text,
     /// A longer name, for people.
@@ -103,7 +103,7 @@ pub struct Contact {
 }
 
 /// A group of contacts.
-#[derive(Debug, Drop)]
+#[derive(Drop)]
 pub struct ContactGroup {
     pub contactgroup_name: Text,
     /// A longer name, for people.
@@ -113,7 +113,7 @@ pub struct ContactGroup {
 }
 
 /// A time period.
-#[derive(Debug, Drop)]
+#[derive(Drop)]
 pub struct Period {
     pub timeperiod_name: Text,
     /// A longer name, for people.
@@ -121,7 +121,7 @@ pub struct Period {
 }
 
 /// A command that checks or notifies.
-#[derive(Debug, Drop)]
+#[derive(Drop)]
 pub struct Command {
     pub command_name: Text,
     /// What is run.
@@ -129,7 +129,7 @@ pub struct Command {
 }
 
 /// Who sees what of services and groups, where a query names a contact.
-#[derive(Clone, Copy, Debug, PartialEq, Eq)]
+#[derive(Clone, Copy)]
 pub struct Rules {
     /// Whether the contacts of a service's host don't see the service by that alone.
     pub service_strict: bool,
@@ -151,7 +151,7 @@ impl Default for Rules {
 
 /// The objects of a monitoring core, each kind in the order of the object file, and the rules by
 /// which contacts see them. An id is a place in the list of its kind.
-#[derive(Debug, Drop)]
+#[derive(Drop)]
 pub struct Base {
     /// At most 10,000.
     pub hosts: Items<Host>,

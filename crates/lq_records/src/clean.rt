@@ -9,7 +9,7 @@ use std::alloc::Global;
 use std::str;
 
 /// The text of any bytes: each valid character is kept, and each byte at which none begins becomes
-/// U+FFFD. The only error is want of memory.
+/// U+FFFD. The only error is that memory runs out.
 pub fn clean_text(alloc: Global, b: &[u8]) -> Result<Text, Memory>
     ensures { IfOk result (λ text. text ≡ cleaned b.now) }
 {

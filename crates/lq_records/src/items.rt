@@ -40,7 +40,8 @@ impl<T> Items<T> {
         self.inner
     }
 
-    /// Adds an item at the end. After want of memory the list is as it was, and the item is dropped.
+    /// Adds an item at the end. Where memory runs out, the list stays as it was and the item is
+    /// dropped.
     pub fn push(&mut self, item: T) -> Result<(), Memory>
     where
         T: Drop,

@@ -26,7 +26,7 @@ impl Text {
         }
     }
 
-    /// A copy of a text. The only error is want of memory.
+    /// A copy of a text. The only error is that memory runs out.
     pub fn new(alloc: Global, text: &str) -> Result<Self, Memory>
         ensures { IfOk result (λ copy. copy ≡ text.now) }
     {

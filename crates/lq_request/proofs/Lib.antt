@@ -6,4 +6,3 @@ pub mod PieceLemmas
 pub mod CutLemmas
 pub mod OrderLemmas
 pub mod TextLemmas
-pub mod HeaderLemmas

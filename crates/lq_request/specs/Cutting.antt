@@ -19,7 +19,8 @@ shown cutting.More = More
 
 -- the piece that the places show
 abbrev pub found_piece : List ℕ → Found → Piece
-found_piece bytes (found.Message extent) = whole extent.kind (take (extent.end - extent.start) (drop extent.start bytes))
+found_piece bytes (found.Message extent) =
+    whole extent.kind (take (extent.end - extent.start) (drop extent.start bytes))
 found_piece bytes found.TooLong = TooLong (take MESSAGE_LIMIT bytes)
 found_piece bytes found.More = More
 
@@ -30,7 +31,8 @@ taken_by found.More = 0
 
 -- the places are within the bytes
 abbrev pub IsWithin : List ℕ → Found → Type 0
-IsWithin bytes (found.Message extent) = (extent.start ≤ extent.end) × (extent.end ≤ extent.next) × (extent.next ≤ length bytes)
+IsWithin bytes (found.Message extent) =
+    (extent.start ≤ extent.end) × (extent.end ≤ extent.next) × (extent.next ≤ length bytes)
 IsWithin bytes found.TooLong = MESSAGE_LIMIT ≤ length bytes
 IsWithin bytes found.More = length bytes ≤ MESSAGE_LIMIT
 

@@ -3,5 +3,7 @@ pub mod Extent
 pub mod Cutting
 pub mod Words
 pub mod Style
+pub mod Reasons
+pub mod Headers
 pub mod Request
 pub mod Reading

@@ -39,7 +39,7 @@ ends_word (byte ∷ bytes) = is_blank byte
 unfoldable pub is_command : List ℕ → Bool
 is_command line = bytes_eq (take 7 line) (codes "COMMAND") && ends_word (drop 7 line)
 
--- a command's text stands behind the word and the blanks behind it
+-- a command's text follows the word and its blanks
 unfoldable pub command_text : List ℕ → List ℕ
 command_text line = without_front (drop 7 line)
 
@@ -75,7 +75,7 @@ query_from before text bytes = record {
 abbrev pub no_message : ℕ → Message
 no_message before = record { kind = message.Nothing; text = []; size = before; ended = false }
 
--- the first of the lines behind the empty ones tells the kind
+-- the first of the lines after the empty ones tells the kind
 abbrev pub message_at : ℕ → List (List ℕ) → List ℕ → Message
 message_at before [] bytes = no_message before
 message_at before (line ∷ lines) bytes =
@@ -115,11 +115,11 @@ piece_of ended bytes first =
 unfoldable pub first_piece : Bool → List ℕ → Piece
 first_piece ended bytes = piece_of ended bytes (message_of (take MESSAGE_LIMIT bytes))
 
--- the bytes behind a message; one without its end takes all
+-- the bytes after a message; one without its end takes all
 abbrev pub behind : List ℕ → Message → List ℕ
 behind bytes first = if first.ended then drop first.size bytes else []
 
--- the bytes behind the first piece; where more are wanted, all of them
+-- the bytes after the first piece; where more are wanted, all of them
 abbrev pub rest_behind : Piece → List ℕ → List ℕ
 rest_behind (Query text) bytes = behind bytes (message_of (take MESSAGE_LIMIT bytes))
 rest_behind (Command text) bytes = behind bytes (message_of (take MESSAGE_LIMIT bytes))
@@ -129,7 +129,7 @@ rest_behind More bytes = bytes
 
 -- ---- all messages, in order
 
--- a piece and the messages behind it; behind one that is too long there is none
+-- a piece and the messages after it; after one that is too long there is none
 abbrev pub before : Piece → List Piece → List Piece
 before (Query text) later = Query text ∷ later
 before (Command text) later = Command text ∷ later
@@ -141,7 +141,8 @@ before More later = []
 unfoldable pub messages_up_to : Bool → ℕ → List ℕ → List Piece
 messages_up_to ended zero bytes = []
 messages_up_to ended (suc most) bytes =
-    before (first_piece ended bytes) (messages_up_to ended most (rest_behind (first_piece ended bytes) bytes))
+    before (first_piece ended bytes)
+    (messages_up_to ended most (rest_behind (first_piece ended bytes) bytes))
 
 -- the messages of a whole input: each takes a byte at least
 unfoldable pub messages : List ℕ → List Piece
@@ -178,8 +179,10 @@ pub record IsNext (ended : Bool) (held : List ℕ) (piece : Piece) : Type 0 wher
 -- The message is the first one of the input, and of those that are known to be whole, before those of
 -- what is left, however the input goes on. Less is left than was held.
 pub record IsCutOff (ended : Bool) (held : List ℕ) (piece : Piece) (left : List ℕ) : Type 0 where
-  pub all : (rest : List ℕ) → (IsTrue ended → rest ≡ []) → messages (held ++ rest) ≡ piece ∷ messages (left ++ rest)
-  pub known : (rest : List ℕ) → ended ≡ false → whole_messages (held ++ rest) ≡ piece ∷ whole_messages (left ++ rest)
+  pub all : (rest : List ℕ) → (IsTrue ended → rest ≡ [])
+      → messages (held ++ rest) ≡ piece ∷ messages (left ++ rest)
+  pub known : (rest : List ℕ) → ended ≡ false
+      → whole_messages (held ++ rest) ≡ piece ∷ whole_messages (left ++ rest)
   pub fewer : length left < length held
 
 -- The too long message is the last one of the input, however it goes on.
@@ -187,7 +190,7 @@ pub record IsLast (ended : Bool) (held : List ℕ) (piece : Piece) : Type 0 wher
   pub all : (rest : List ℕ) → (IsTrue ended → rest ≡ []) → messages (held ++ rest) ≡ piece ∷ []
   pub known : (rest : List ℕ) → ended ≡ false → whole_messages (held ++ rest) ≡ piece ∷ []
 
--- Pieces come in the order of the messages: `left` is what is held behind the piece.
+-- Pieces come in the order of the messages: `left` is what is held after the piece.
 abbrev pub IsInOrder : Bool → List ℕ → Piece → List ℕ → Type 0
 IsInOrder ended held (Query text) left = IsCutOff ended held (Query text) left
 IsInOrder ended held (Command text) left = IsCutOff ended held (Command text) left

@@ -20,7 +20,9 @@ switch_value value = switch_of (trimmed value)
 
 abbrev pub keep_at : List ℕ → Option ℕ → Option Bool
 keep_at line None = None
-keep_at line (Some colon) = if bytes_eq (take colon line) (codes "KeepAlive") then switch_value (drop (colon + 1) line) else None
+keep_at line (Some colon) =
+    if bytes_eq (take colon line) (codes "KeepAlive") then switch_value (drop (colon + 1) line)
+    else None
 
 -- what a line says of the connection: something where it is a well-formed `KeepAlive` line
 unfoldable pub keep_of : List ℕ → Option Bool

@@ -11,15 +11,15 @@ use std::marker::Model;
 /// The longest message in bytes, with the empty lines before it and the empty line that ends it.
 pub const MESSAGE_LIMIT: usize = 65_536;
 
-/// One byte more than a message may have shows that the bytes go on past it.
+/// The most bytes that are held: one more than a message may have shows that the bytes go on past it.
 const CAPACITY: usize = 65_537;
 
 /// What stands first in the bytes of a connection.
-#[derive(Clone, Copy, Debug)]
+#[derive(Clone, Copy)]
 pub enum Cutting<'a> {
     /// The lines of a query, without the empty lines before it and the empty line that ends it.
     Query(&'a [u8]),
-    /// The text of a command: what stands in its line behind `COMMAND` and the blanks behind that.
+    /// The text of a command: what follows `COMMAND` and its blanks in the line.
     Command(&'a [u8]),
     /// No message is whole, and more bytes may come.
     More,
@@ -46,7 +46,8 @@ impl Model for Cut {
 
     ghost view = { λ cut. take (cut.end - cut.start) (drop cut.start cut.buffer.items) };
 
-    ghost invariant = { λ cut. (cut.start ≤ cut.end) × (cut.end ≤ CAPACITY) × (vec_len cut.buffer ≡ CAPACITY) };
+    ghost invariant = { λ cut. (cut.start ≤ cut.end) × (cut.end ≤ CAPACITY)
+        × (vec_len cut.buffer ≡ CAPACITY) };
 }
 
 impl Cut {
@@ -125,7 +126,7 @@ fn message(kind: MessageKind, text: &[u8]) -> Cutting<'_>
 }
 
 /// What stands first in the bytes, by its places.
-#[derive(Clone, Copy, Debug)]
+#[derive(Clone, Copy)]
 enum Found {
     Message(Extent),
     TooLong,
@@ -171,7 +172,7 @@ fn move_front(buffer: &mut [u8], start: usize, held: usize)
     buffer.copy_within(start..start + held, 0);
 }
 
-/// Puts a piece behind the first `held` bytes.
+/// Puts a piece after the first `held` bytes.
 fn put_behind(buffer: &mut [u8], held: usize, piece: &[u8])
     requires { held + length piece.now ≤ length buffer.old }
     ensures held { take (held + length piece.now) buffer.new ≡ take held buffer.old ++ piece.now }

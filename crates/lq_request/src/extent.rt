@@ -8,8 +8,11 @@ ghost use Rattle.lq_request.specs.declared.extent.LineKind.TheVariants as kind;
 
 use lq_text::{is_blank, next_line};
 
+/// How many bytes the word `COMMAND` has, which begins the line of a command.
+const COMMAND_LENGTH: usize = 7;
+
 /// What a message is, by the first of its lines.
-#[derive(Clone, Copy, Debug, PartialEq, Eq)]
+#[derive(Clone, Copy, PartialEq, Eq)]
 pub enum MessageKind {
     /// It has the lines of a query.
     Query,
@@ -20,7 +23,7 @@ pub enum MessageKind {
 }
 
 /// Where the first message stands in the bytes.
-#[derive(Clone, Copy, Debug)]
+#[derive(Clone, Copy)]
 pub struct Extent {
     /// What it is.
     pub kind: MessageKind,
@@ -28,12 +31,12 @@ pub struct Extent {
     pub start: usize,
     /// The place where its text ends.
     pub end: usize,
-    /// The place behind its end; the same as `end` where its end hasn't come.
+    /// The place after its end; the same as `end` where its end hasn't come.
     pub next: usize,
 }
 
 /// A line without text, or with some.
-#[derive(Clone, Copy, Debug, PartialEq, Eq)]
+#[derive(Clone, Copy, PartialEq, Eq)]
 enum LineKind {
     Empty,
     Text,
@@ -67,7 +70,8 @@ pub fn extent_of(bytes: &[u8]) -> Extent
 /// The query whose lines begin at a place.
 fn query_at(bytes: &[u8], start: usize) -> Extent
     requires { start ≤ length bytes.now }
-    ensures { IsExtentOf (query_from start (front_lines kind.Text (drop start bytes.now)) bytes.now) bytes.now result }
+    ensures { IsExtentOf (query_from start (front_lines kind.Text (drop start bytes.now)) bytes.now)
+        bytes.now result }
 {
     let end = start + front_length(&bytes[start..], LineKind::Text);
     let next = end + empty_line_length(&bytes[end..]);
@@ -79,8 +83,7 @@ fn query_at(bytes: &[u8], start: usize) -> Extent
     }
 }
 
-/// The length of `COMMAND` and the blanks behind it at the front of a line. None where the line is no
-/// command.
+/// The length of `COMMAND` and its blanks at the front of a line. None where the line is no command.
 #[tactic(auto, unfolding(crate::specs::Messages::is_command, crate::specs::Messages::command_text))]
 fn command_length(line: &[u8]) -> Option<usize>
     ensures none { IfNone result (is_command line.now ≡ false) }
@@ -92,7 +95,7 @@ fn command_length(line: &[u8]) -> Option<usize>
     if !ends_word(rest) {
         return None;
     }
-    Some(7 + blank_length(rest))
+    Some(COMMAND_LENGTH + blank_length(rest))
 }
 
 /// Whether a word ends before these bytes.

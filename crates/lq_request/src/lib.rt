@@ -5,10 +5,9 @@ mod cut;
 mod extent;
 mod fault;
 mod header;
+mod reason;
 mod request;
 mod style;
-#[cfg(test)]
-mod tests;
 mod words;
 
 pub use cut::{Cut, Cutting, MESSAGE_LIMIT};

@@ -1,32 +1,34 @@
 ghost use Rattle.std.specs.Prelude.{◌≡◌, IfOk, map};
 ghost use Rattle.std.specs.List.{AllByRecursion};
 ghost use Rattle.std.specs.Str.{IsUtf8};
-ghost use Rattle.lq_records.specs.Schema.{columns_of};
+ghost use Rattle.lq_schema.specs.Schema.{columns_of};
 ghost use Rattle.lq_text.specs.Lines.{lines_of};
 ghost use Rattle.lq_request.specs.Reading.{Finds, Reads};
-ghost use Rattle.lq_request.specs.Request.{asked, asked_in, chosen_columns, first_line, first_words, known_table, request_of, table_of_words};
+ghost use Rattle.lq_request.specs.Request.{asked, asked_in, chosen_columns, first_line, request_of, table_of_words};
 
-use crate::fault::{Fault, refused};
+use crate::fault::Fault;
 use crate::header::{Headers, header_lines};
+use crate::reason::Reason;
 use crate::style::{Style, reply_style};
 use crate::words::{as_text, is_text, words_of};
-use lq_records::{Base, Col, Items, Memory, Refusal, Table, column_at, column_count, table};
+use lq_records::{Base, Items, Memory, Refusal, Text};
+use lq_schema::{Col, Table, column_at, column_count, table};
 use lq_text::next_line;
-use std::alloc::Global;
+use std::alloc::{AllocError, Global};
 
 /// What a query asks.
-#[derive(Debug, Drop)]
+#[derive(Drop)]
 pub struct Request {
     /// The table that is asked.
     pub table: Table,
     /// The columns, in the order of the answer.
     pub columns: Items<Col>,
-    /// Whether a line of the columns' names comes first: what the last `ColumnHeaders` line says; without
-    /// one, true exactly where no columns are named.
+    /// Whether a line of the columns' names comes first: what the last `ColumnHeaders` line says;
+    /// without one, true exactly where no columns are named.
     pub head: bool,
     /// Whether a line of 16 bytes with the code and the length comes first. It is always false so far.
     pub fixed16: bool,
-    /// Whether the connection goes on behind the reply.
+    /// Whether the connection goes on after the reply.
     pub keep: bool,
 }
 
@@ -39,7 +41,7 @@ pub enum ReadErr {
         fixed16: bool,
         keep: bool,
     },
-    /// Want of memory.
+    /// Out of memory.
     Memory,
 }
 
@@ -58,11 +60,14 @@ pub fn read_request(alloc: Global, b: &[u8], _base: &Base) -> Result<Request, Re
     let style = reply_style(b);
     match asked_in(alloc, style, b) {
         Ok(request) => Ok(request),
-        Err(Fault::Refused(refusal)) => Err(ReadErr::Refused {
-            refusal,
-            fixed16: style.fixed16,
-            keep: style.keep,
-        }),
+        Err(Fault::Refused(reason)) => match reason.refusal(alloc) {
+            Ok(refusal) => Err(ReadErr::Refused {
+                refusal,
+                fixed16: style.fixed16,
+                keep: style.keep,
+            }),
+            Err(AllocError) => Err(ReadErr::Memory),
+        },
         Err(Fault::Memory) => Err(ReadErr::Memory),
     }
 }
@@ -73,7 +78,7 @@ fn asked_in(alloc: Global, style: Style, message: &[u8]) -> Result<Request, Faul
     ensures { Finds result (asked_in style message.now) }
 {
     let Some((end, next)) = next_line(message, 0) else {
-        return Err(refused(alloc, 452, "invalid request", "")?);
+        return Err(Fault::Refused(Reason::InvalidRequest));
     };
     let table = first_line(alloc, &message[..end])?;
     let headers = header_lines(alloc, table, &message[next..])?;
@@ -85,33 +90,33 @@ fn first_line(alloc: Global, line: &[u8]) -> Result<Table, Fault>
     ensures { Finds result (first_line line.now) }
 {
     if !is_text(line) {
-        return Err(refused(alloc, 400, "not UTF-8", "")?);
+        return Err(Fault::Refused(Reason::NotUtf8));
     }
     let words = words_of(alloc, line)?;
     let Some((get, more)) = words.split_first() else {
-        return Err(refused(alloc, 452, "invalid request", "")?);
+        return Err(Fault::Refused(Reason::InvalidRequest));
     };
     if *get != b"GET".as_slice() {
-        return Err(refused(alloc, 452, "invalid request", "")?);
+        return Err(Fault::Refused(Reason::InvalidRequest));
     }
     table_of_words(alloc, more)
 }
 
-/// The table that the words behind `GET` name.
+/// The table that the words after `GET` name.
 fn table_of_words(alloc: Global, words: &[&[u8]]) -> Result<Table, Fault>
     requires { AllByRecursion IsUtf8 (map (λ word. word.now) words.now) }
     ensures { Finds result (table_of_words (map (λ word. word.now) words.now)) }
 {
     let Some((word, more)) = words.split_first() else {
-        return Err(refused(alloc, 451, "missing table name", "")?);
+        return Err(Fault::Refused(Reason::MissingTable));
     };
     let word = as_text(word);
     let Some(table) = table(word) else {
-        return Err(refused(alloc, 404, "unknown table: ", word)?);
+        return Err(Fault::Refused(Reason::UnknownTable(Text::new(alloc, word)?)));
     };
     match more.split_first() {
         None => Ok(table),
-        Some(_) => Err(refused(alloc, 400, "extra words after the table name", "")?),
+        Some(_) => Err(Fault::Refused(Reason::ExtraWords)),
     }
 }
 

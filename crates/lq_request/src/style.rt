@@ -5,7 +5,7 @@ ghost use Rattle.lq_request.specs.Style.{is_colon, keep_of, keep_of_lines, style
 use lq_text::{next_line, trim};
 
 /// How the reply to a message is given, and what becomes of the connection.
-#[derive(Clone, Copy, Debug, PartialEq, Eq)]
+#[derive(Clone, Copy, PartialEq, Eq)]
 pub struct Style {
     /// Whether a line of 16 bytes with the code and the length comes first. It is always false so far.
     pub fixed16: bool,
@@ -66,7 +66,7 @@ pub fn switch_value(value: &[u8]) -> Option<bool>
     }
 }
 
-/// The place of the colon behind a header's name.
+/// The place of the colon that ends a header's name.
 pub fn colon_place(line: &[u8]) -> Option<usize>
     ensures place { result ≡ position is_colon line.now }
     ensures within { IfSome result (λ colon. colon < length line.now) }

@@ -5,10 +5,10 @@ use Rattle.std.specs.Option.{option_map}
 use Rattle.std.proofs.Math.Seq.{drop-cons}
 use Rattle.std.proofs.lemmas.List.{length-map}
 use Rattle.std.proofs.lemmas.Option.{slice_get-map, slice_get_within, get_or_from_slice_get}
-use Rattle.lq_records.specs.declared.columns.Col.{Col}
-use Rattle.lq_records.specs.declared.columns.Table.{Table}
-use Rattle.lq_records.specs.declared.columns.Table.TheVariants as table
-use Rattle.lq_records.specs.Schema.{columns_of}
+use Rattle.lq_schema.specs.declared.columns.Col.{Col}
+use Rattle.lq_schema.specs.declared.columns.Table.{Table}
+use Rattle.lq_schema.specs.declared.columns.Table.TheVariants as table
+use Rattle.lq_schema.specs.Schema.{columns_of}
 use Rattle.lq_tables.specs.Schema.{entries_of}
 use Rattle.lq_tables.specs.declared.schema.Entry.{Entry}
 
@@ -30,7 +30,7 @@ few table.HostsByGroup = lit≤ tt
 few table.ServicesByGroup = lit≤ tt
 few table.ServicesByHostGroup = lit≤ tt
 
--- the tables from a place on are the one there and those behind it
+-- the tables from a place on are the one there and those after it
 pub from_place : {A : Type 0} (xs : List A) (i : ℕ) (x : A) → slice_get xs i ≡ Some x → drop i xs ≡ x ∷ drop (i + 1) xs
 from_place xs i x found =
     let next : i + 1 ≡ suc i = omega arith in
@@ -42,7 +42,7 @@ in_front [] back i x found = absurd (omega (arith, slice_get_within [] i x found
 in_front (y ∷ front) back zero x found = found
 in_front (y ∷ front) back (suc i) x found = in_front front back i x found
 
--- a place behind a front
+-- a place after a front
 behind : {A : Type 0} (front back : List A) (i : ℕ) → length front ≤ i → slice_get (front ++ back) i ≡ slice_get back (i - length front)
 behind [] back i past = let same : i ≡ i - 0 = omega arith in ap (slice_get back) same
 behind (x ∷ front) back zero past = absurd (omega (arith, past))

@@ -7,8 +7,8 @@ use Rattle.std.proofs.lemmas.Bool.{eq-eqb, ne_eqb}
 use Rattle.std.proofs.lemmas.Bool.Decides.{nat_tests}
 use Rattle.std.proofs.lemmas.Cmp.{ranked}
 use Rattle.std.proofs.lemmas.Option.{slice_get-get_or}
-use Rattle.lq_records.specs.declared.columns.Table.{Table}
-use Rattle.lq_records.specs.declared.columns.Table.TheVariants as table
+use Rattle.lq_schema.specs.declared.columns.Table.{Table}
+use Rattle.lq_schema.specs.declared.columns.Table.TheVariants as table
 use Rattle.lq_live.specs.Ids.{HasRisingIds, IdsRise, comment_id, downtime_id}
 use Rattle.lq_live.specs.State.{State}
 use Rattle.lq_tables.specs.About.{row_comment, row_downtime}
@@ -17,7 +17,7 @@ use Rattle.lq_tables.specs.Rows.{rows_of}
 use Rattle.lq_tables.specs.declared.row.Row.{Row}
 use Rattle.lq_tables.specs.declared.row.Row.TheVariants as row
 
--- the first with an id, behind an item
+-- the first with an id, after an item
 found_first : {A : Type 0} (id : A → ℕ) (sought : ℕ) (item : A) (items : List A) (is : Bool) → (id item == sought) ≡ is
     → find (λ other. id other == sought) (item ∷ items) ≡ if is then Some item else find (λ other. id other == sought) items
 found_first id sought item items true is = rw is refl

@@ -11,10 +11,10 @@ use Rattle.lq_records.specs.declared.ids.HostGroupId.{HostGroupId}
 use Rattle.lq_records.specs.declared.ids.HostId.{HostId}
 use Rattle.lq_records.specs.declared.ids.ServiceGroupId.{ServiceGroupId}
 use Rattle.lq_records.specs.declared.ids.ServiceId.{ServiceId}
-use Rattle.lq_records.specs.declared.status.Comment.{Comment}
-use Rattle.lq_records.specs.declared.status.Downtime.{Downtime}
-use Rattle.lq_records.specs.declared.status.Object.{Object}
-use Rattle.lq_records.specs.declared.status.Object.TheVariants as object
+use Rattle.lq_events.specs.declared.status.Comment.{Comment}
+use Rattle.lq_events.specs.declared.status.Downtime.{Downtime}
+use Rattle.lq_records.specs.declared.object.Object.{Object}
+use Rattle.lq_records.specs.declared.object.Object.TheVariants as object
 use Rattle.lq_live.specs.State.{State}
 use Rattle.lq_tables.specs.Schema.{schema}
 use Rattle.lq_tables.specs.declared.row.Row.{Row}
@@ -41,7 +41,8 @@ row_comment s row = None
 
 -- the host or service that a downtime's or a comment's row is about
 abbrev pub row_object : State → Row → Option Object
-row_object s (row.Downtime id) = option_map (λ downtime. downtime.object) (downtime_with id s.downtimes)
+row_object s (row.Downtime id) =
+    option_map (λ downtime. downtime.object) (downtime_with id s.downtimes)
 row_object s (row.Comment id) = option_map (λ comment. comment.object) (comment_with id s.comments)
 row_object s row = None
 

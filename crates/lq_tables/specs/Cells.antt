@@ -5,21 +5,21 @@ use Rattle.lq_records.specs.declared.base.Base.{Base}
 use Rattle.lq_records.specs.declared.base.ContactGroup.{ContactGroup}
 use Rattle.lq_records.specs.declared.base.HostGroup.{HostGroup}
 use Rattle.lq_records.specs.declared.base.ServiceGroup.{ServiceGroup}
-use Rattle.lq_records.specs.declared.columns.Col.{Col}
-use Rattle.lq_records.specs.declared.columns.ContactGroupColumn.{ContactGroupColumn}
-use Rattle.lq_records.specs.declared.columns.ContactGroupColumn.TheVariants as contact_group
-use Rattle.lq_records.specs.declared.columns.HostGroupColumn.{HostGroupColumn}
-use Rattle.lq_records.specs.declared.columns.HostGroupColumn.TheVariants as host_group
-use Rattle.lq_records.specs.declared.columns.OwnColumn.{OwnColumn}
-use Rattle.lq_records.specs.declared.columns.OwnColumn.TheVariants as own
-use Rattle.lq_records.specs.declared.columns.ServiceGroupColumn.{ServiceGroupColumn}
-use Rattle.lq_records.specs.declared.columns.ServiceGroupColumn.TheVariants as service_group
+use Rattle.lq_schema.specs.declared.columns.Col.{Col}
+use Rattle.lq_schema.specs.declared.contact_group.ContactGroupColumn.{ContactGroupColumn}
+use Rattle.lq_schema.specs.declared.contact_group.ContactGroupColumn.TheVariants as contact_group
+use Rattle.lq_schema.specs.declared.host_group.HostGroupColumn.{HostGroupColumn}
+use Rattle.lq_schema.specs.declared.host_group.HostGroupColumn.TheVariants as host_group
+use Rattle.lq_schema.specs.declared.columns.OwnColumn.{OwnColumn}
+use Rattle.lq_schema.specs.declared.columns.OwnColumn.TheVariants as own
+use Rattle.lq_schema.specs.declared.service_group.ServiceGroupColumn.{ServiceGroupColumn}
+use Rattle.lq_schema.specs.declared.service_group.ServiceGroupColumn.TheVariants as service_group
 use Rattle.lq_records.specs.declared.ids.HostGroupId.{HostGroupId}
 use Rattle.lq_records.specs.declared.ids.HostId.{HostId}
 use Rattle.lq_records.specs.declared.ids.ServiceGroupId.{ServiceGroupId}
 use Rattle.lq_records.specs.declared.ids.ServiceId.{ServiceId}
-use Rattle.lq_records.specs.Kinds.{contact_group_kind, host_group_kind, own_kind, service_group_kind}
-use Rattle.lq_records.specs.Value.{Value, Words, Texts, Pairs, empty_value}
+use Rattle.lq_schema.specs.Kinds.{contact_group_kind, host_group_kind, own_kind, service_group_kind}
+use Rattle.lq_schema.specs.Value.{Value, Words, Texts, Pairs, empty_value}
 use Rattle.lq_live.specs.State.{State}
 use Rattle.lq_columns.specs.Names.{contact_names_of, host_names_of}
 use Rattle.lq_columns.specs.Cells.{hosts_cell, of_host, of_service, services_cell}
@@ -34,7 +34,8 @@ abbrev pub contact_group_cell : Base → Option ContactGroup → ContactGroupCol
 contact_group_cell base None column = empty_value (contact_group_kind column)
 contact_group_cell base (Some group) contact_group.Name = Words group.contactgroup_name
 contact_group_cell base (Some group) contact_group.Alias = Words group.alias
-contact_group_cell base (Some group) contact_group.Members = Texts (contact_names_of base group.members)
+contact_group_cell base (Some group) contact_group.Members =
+    Texts (contact_names_of base group.members)
 
 abbrev pub host_group_cell : State → HostGroupId → Option HostGroup → HostGroupColumn → Value
 host_group_cell s id None column = empty_value (host_group_kind column)
@@ -45,25 +46,30 @@ host_group_cell s id (Some group) host_group.NotesUrl = Words group.notes_url
 host_group_cell s id (Some group) host_group.ActionUrl = Words group.action_url
 host_group_cell s id (Some group) host_group.Members = Texts (host_names_of s.base group.members)
 host_group_cell s id (Some group) (host_group.Hosts column) = hosts_cell s id column
-host_group_cell s id (Some group) (host_group.Services column) = services_cell s (scope.HostGroup id) column
+host_group_cell s id (Some group) (host_group.Services column) =
+    services_cell s (scope.HostGroup id) column
 
 abbrev pub host_group_part : State → Option HostGroupId → HostGroupColumn → Value
 host_group_part s None column = empty_value (host_group_kind column)
 host_group_part s (Some id) column = host_group_cell s id (slice_get s.base.host_groups id.0) column
 
-abbrev pub service_group_cell : State → ServiceGroupId → Option ServiceGroup → ServiceGroupColumn → Value
+abbrev pub service_group_cell : State → ServiceGroupId → Option ServiceGroup
+    → ServiceGroupColumn → Value
 service_group_cell s id None column = empty_value (service_group_kind column)
 service_group_cell s id (Some group) service_group.Name = Words group.servicegroup_name
 service_group_cell s id (Some group) service_group.Alias = Words group.alias
 service_group_cell s id (Some group) service_group.Notes = Words group.notes
 service_group_cell s id (Some group) service_group.NotesUrl = Words group.notes_url
 service_group_cell s id (Some group) service_group.ActionUrl = Words group.action_url
-service_group_cell s id (Some group) service_group.Members = Pairs (filter_map (pair_at s.base) group.members)
-service_group_cell s id (Some group) (service_group.Services column) = services_cell s (scope.ServiceGroup id) column
+service_group_cell s id (Some group) service_group.Members =
+    Pairs (filter_map (pair_at s.base) group.members)
+service_group_cell s id (Some group) (service_group.Services column) =
+    services_cell s (scope.ServiceGroup id) column
 
 abbrev pub service_group_part : State → Option ServiceGroupId → ServiceGroupColumn → Value
 service_group_part s None column = empty_value (service_group_kind column)
-service_group_part s (Some id) column = service_group_cell s id (slice_get s.base.service_groups id.0) column
+service_group_part s (Some id) column =
+    service_group_cell s id (slice_get s.base.service_groups id.0) column
 
 -- ---- hosts and services
 
@@ -77,14 +83,16 @@ service_part s (Some id) column = of_service s id column
 
 -- ---- all columns
 
--- the value of a column of what it is about; the empty value of its kind where the row isn't about such a thing
+-- the value of a column of what it is about; the empty value of its kind where the row isn't about
+-- such a thing
 abbrev pub own_cell : State → Row → OwnColumn → Value
 own_cell s row (own.Host column) = host_part s (row_host s row) (own.Host column)
 own_cell s row (own.Service column) = service_part s (row_service s row) (own.Service column)
 own_cell s row (own.HostGroup column) = host_group_part s (row_host_group row) column
 own_cell s row (own.ServiceGroup column) = service_group_part s (row_service_group row) column
 own_cell s row (own.Contact column) = contact_cell (row_contact s.base row) column
-own_cell s row (own.ContactGroup column) = contact_group_cell s.base (row_contact_group s.base row) column
+own_cell s row (own.ContactGroup column) =
+    contact_group_cell s.base (row_contact_group s.base row) column
 own_cell s row (own.Command column) = command_cell (row_command s.base row) column
 own_cell s row (own.Period column) = period_cell (row_period s.base row) column
 own_cell s row (own.Downtime column) = downtime_cell (row_downtime s row) column

@@ -1,5 +1,6 @@
 pub mod Schema
 pub mod Rows
+pub mod Listed
 pub mod About
 pub mod Own
 pub mod Parts

@@ -1,12 +1,22 @@
--- Columns whose cells take no memory.
-use Rattle.lq_records.specs.declared.columns.OwnColumn.{OwnColumn}
-use Rattle.lq_records.specs.declared.columns.OwnColumn.TheVariants as own
-use Rattle.lq_records.specs.declared.columns.SchemaColumn.TheVariants as schema
-use Rattle.lq_records.specs.Kinds.{own_kind}
-use Rattle.lq_columns.specs.Plain.{IsPlain}
+-- Columns whose cells take no memory, and those whose numbers stand in the state as they are.
+use Rattle.lq_schema.specs.declared.columns.OwnColumn.{OwnColumn}
+use Rattle.lq_schema.specs.declared.columns.OwnColumn.TheVariants as own
+use Rattle.lq_schema.specs.declared.schema_column.SchemaColumn.TheVariants as schema
+use Rattle.lq_schema.specs.Kinds.{own_kind}
+use Rattle.lq_columns.specs.Plain.{IsHeldByHost, IsHeldByService, IsPlain}
 
 -- numbers and single texts, but not the whole name of a column, which is put together
 abbrev pub IsLight : OwnColumn → Type 0
 IsLight (own.Schema schema.Name) = ⊥
 IsLight (own.Schema schema.Description) = ⊥
 IsLight column = IsPlain (own_kind column)
+
+-- numbers that are found without a look at other objects: all but counters, and how many downtimes
+-- hold
+abbrev pub IsHeld : OwnColumn → Type 0
+IsHeld (own.Host column) = IsHeldByHost column
+IsHeld (own.Service column) = IsHeldByService column
+IsHeld (own.Downtime column) = Unit {0}
+IsHeld (own.Comment column) = Unit {0}
+IsHeld (own.Program column) = Unit {0}
+IsHeld column = ⊥

@@ -1,4 +1,5 @@
--- The values of the columns on contacts, commands, time periods, downtimes, comments, the program and the schema.
+-- The values of the columns on contacts, commands, time periods, downtimes, comments, the program
+-- and the schema.
 use Rattle.std.specs.Prelude.{ℕ, pos, Bool, Option, Some, None, List, length, codes, if◌then◌else◌}
 use Rattle.std.specs.List.{slice_get}
 use Rattle.std.specs.Option.{option_map, option_and_then}
@@ -7,29 +8,32 @@ use Rattle.lq_records.specs.declared.base.Command.{Command}
 use Rattle.lq_records.specs.declared.base.Contact.{Contact}
 use Rattle.lq_records.specs.declared.base.Period.{Period}
 use Rattle.lq_records.specs.declared.base.Service.{Service}
-use Rattle.lq_records.specs.declared.columns.ColKind.{ColKind}
-use Rattle.lq_records.specs.declared.columns.ColKind.TheVariants as kind
-use Rattle.lq_records.specs.declared.columns.CommandColumn.{CommandColumn}
-use Rattle.lq_records.specs.declared.columns.CommandColumn.TheVariants as command
-use Rattle.lq_records.specs.declared.columns.CommentColumn.{CommentColumn}
-use Rattle.lq_records.specs.declared.columns.CommentColumn.TheVariants as comment
-use Rattle.lq_records.specs.declared.columns.ContactColumn.{ContactColumn}
-use Rattle.lq_records.specs.declared.columns.ContactColumn.TheVariants as contact
-use Rattle.lq_records.specs.declared.columns.DowntimeColumn.{DowntimeColumn}
-use Rattle.lq_records.specs.declared.columns.DowntimeColumn.TheVariants as downtime
-use Rattle.lq_records.specs.declared.columns.PeriodColumn.{PeriodColumn}
-use Rattle.lq_records.specs.declared.columns.PeriodColumn.TheVariants as period
-use Rattle.lq_records.specs.declared.columns.ProgramColumn.{ProgramColumn}
-use Rattle.lq_records.specs.declared.columns.ProgramColumn.TheVariants as program
-use Rattle.lq_records.specs.declared.columns.SchemaColumn.{SchemaColumn}
-use Rattle.lq_records.specs.declared.columns.SchemaColumn.TheVariants as schema
+use Rattle.lq_schema.specs.declared.columns.ColKind.{ColKind}
+use Rattle.lq_schema.specs.declared.columns.ColKind.TheVariants as kind
+use Rattle.lq_schema.specs.declared.command.CommandColumn.{CommandColumn}
+use Rattle.lq_schema.specs.declared.command.CommandColumn.TheVariants as command
+use Rattle.lq_schema.specs.declared.comment.CommentColumn.{CommentColumn}
+use Rattle.lq_schema.specs.declared.comment.CommentColumn.TheVariants as comment
+use Rattle.lq_schema.specs.declared.contact.ContactColumn.{ContactColumn}
+use Rattle.lq_schema.specs.declared.contact.ContactColumn.TheVariants as contact
+use Rattle.lq_schema.specs.declared.downtime.DowntimeColumn.{DowntimeColumn}
+use Rattle.lq_schema.specs.declared.downtime.DowntimeColumn.TheVariants as downtime
+use Rattle.lq_schema.specs.declared.period.PeriodColumn.{PeriodColumn}
+use Rattle.lq_schema.specs.declared.period.PeriodColumn.TheVariants as period
+use Rattle.lq_schema.specs.declared.program.ProgramColumn.{ProgramColumn}
+use Rattle.lq_schema.specs.declared.program.ProgramColumn.TheVariants as program
+use Rattle.lq_schema.specs.declared.schema_column.SchemaColumn.{SchemaColumn}
+use Rattle.lq_schema.specs.declared.schema_column.SchemaColumn.TheVariants as schema
 use Rattle.lq_records.specs.declared.ids.ServiceId.{ServiceId}
-use Rattle.lq_records.specs.declared.status.Comment.{Comment}
-use Rattle.lq_records.specs.declared.status.Downtime.{Downtime}
-use Rattle.lq_records.specs.Kinds.{command_kind, comment_kind, contact_kind, downtime_kind, own_kind, period_kind, program_kind, schema_kind}
-use Rattle.lq_records.specs.Names.{full_name, table_name}
-use Rattle.lq_records.specs.Value.{Value, Number, Words, empty_value}
-use Rattle.lq_live.specs.State.{State, is_service}
+use Rattle.lq_events.specs.declared.status.Comment.{Comment}
+use Rattle.lq_events.specs.declared.status.Downtime.{Downtime}
+use Rattle.lq_schema.specs.Kinds.{command_kind, comment_kind, contact_kind, downtime_kind, own_kind, period_kind, program_kind, schema_kind}
+use Rattle.lq_schema.specs.Names.{full_name, table_name}
+use Rattle.lq_schema.specs.Value.{Value, Number, Words, empty_value}
+use Rattle.lq_live.specs.State.{State}
+use Rattle.lq_records.specs.Object.{is_same_kind, kind_of}
+use Rattle.lq_records.specs.declared.object.Object.{Object}
+use Rattle.lq_records.specs.declared.object.ObjectKind.TheVariants as object_kind
 use Rattle.lq_tables.specs.declared.row.Row.{Row}
 use Rattle.lq_tables.specs.declared.row.Row.TheVariants as row
 use Rattle.lq_tables.specs.declared.schema.Entry.{Entry}
@@ -40,6 +44,10 @@ flag holds = Number (pos (if holds then 1 else 0))
 
 abbrev pub count : ℕ → Value
 count number = Number (pos number)
+
+-- 1 for a service, 0 for a host
+abbrev pub service_flag : Object → Value
+service_flag about = flag (is_same_kind (kind_of about) object_kind.Service)
 
 -- ---- contacts, commands and time periods
 
@@ -76,7 +84,7 @@ downtime_cell (Some item) downtime.EndTime = count item.end
 downtime_cell (Some item) downtime.Fixed = count 1
 downtime_cell (Some item) downtime.Duration = count item.duration
 downtime_cell (Some item) downtime.TriggeredBy = count 0
-downtime_cell (Some item) downtime.IsService = flag (is_service item.object)
+downtime_cell (Some item) downtime.IsService = service_flag item.object
 
 abbrev pub comment_cell : Option Comment → CommentColumn → Value
 comment_cell None column = empty_value (comment_kind column)
@@ -86,7 +94,7 @@ comment_cell (Some item) comment.Comment = Words item.text
 comment_cell (Some item) comment.EntryTime = count item.time
 comment_cell (Some item) comment.EntryType = count item.entry_type
 comment_cell (Some item) comment.Persistent = count item.persistent
-comment_cell (Some item) comment.IsService = flag (is_service item.object)
+comment_cell (Some item) comment.IsService = service_flag item.object
 
 -- ---- the program and the schema
 
@@ -121,7 +129,9 @@ schema_cell (Some entry) schema.Description = Words (full_name entry.column)
 
 -- the names of a service: its host's, and its description
 abbrev pub pair_of : Base → Service → Option (List ℕ × List ℕ)
-pair_of base service = option_map (λ host. (host.host_name, service.service_description)) (slice_get base.hosts service.host.0)
+pair_of base service =
+    option_map (λ host. (host.host_name, service.service_description))
+    (slice_get base.hosts service.host.0)
 
 abbrev pub pair_at : Base → ServiceId → Option (List ℕ × List ℕ)
 pair_at base id = option_and_then (pair_of base) (slice_get base.services id.0)

@@ -1,8 +1,8 @@
 -- All columns of all tables, in one list.
 use Rattle.std.specs.Prelude.{List, map}
 use Rattle.std.specs.List.{flat_map}
-use Rattle.lq_records.specs.declared.columns.Table.{Table}
-use Rattle.lq_records.specs.Schema.{columns_of, tables}
+use Rattle.lq_schema.specs.declared.columns.Table.{Table}
+use Rattle.lq_schema.specs.Schema.{columns_of, tables}
 use Rattle.lq_tables.specs.declared.schema.Entry.{Entry}
 
 abbrev pub entries_of : Table → List Entry

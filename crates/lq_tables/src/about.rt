@@ -7,10 +7,11 @@ ghost use Rattle.lq_tables.specs.About.{comment_with, downtime_with, host_of_obj
 
 use crate::row::Row;
 use crate::schema::{Entry, entry_at};
+use lq_events::{Comment, Downtime};
 use lq_live::Live;
 use lq_records::{
-    Base, Command, Comment, Contact, ContactGroup, Downtime, HostGroupId, HostId, Object, Period,
-    ServiceGroupId, ServiceId,
+    Base, Command, Contact, ContactGroup, HostGroupId, HostId, Object, Period, ServiceGroupId,
+    ServiceId,
 };
 
 // ---- downtimes and comments
@@ -56,6 +57,7 @@ fn comment_with(live: &Live, id: u64) -> Option<&Comment>
 }
 
 /// The host or service that a downtime's or a comment's row is about.
+#[inline(never)]
 fn row_object(live: &Live, row: Row) -> Option<Object>
     ensures { result ≡ row_object live.now.state row }
 {
@@ -75,6 +77,7 @@ fn row_object(live: &Live, row: Row) -> Option<Object>
 // ---- hosts and services
 
 /// The host that a row is about, or whose service it is about.
+#[inline]
 pub(crate) fn row_host(live: &Live, row: Row) -> Option<HostId>
     ensures { result ≡ row_host live.now.state row }
 {
@@ -91,6 +94,7 @@ pub(crate) fn row_host(live: &Live, row: Row) -> Option<HostId>
 }
 
 /// The service that a row is about.
+#[inline]
 pub(crate) fn row_service(live: &Live, row: Row) -> Option<ServiceId>
     ensures { result ≡ row_service live.now.state row }
 {

@@ -1,50 +1,50 @@
 ghost use Rattle.std.specs.Prelude.{◌≡◌};
 ghost use Rattle.std.specs.Option.{option_copied};
-ghost use Rattle.lq_records.specs.Value.{shown};
+ghost use Rattle.lq_schema.specs.Value.{Words};
 ghost use Rattle.lq_tables.specs.Parts.{command_cell, contact_cell, period_cell};
 
-use lq_records::{Command, CommandColumn, Contact, ContactColumn, Period, PeriodColumn, Val};
+use lq_records::{Command, Contact, Period};
+use lq_schema::{CommandColumn, ContactColumn, PeriodColumn};
 
-pub(crate) fn contact_value<'a>(contact: Option<&'a Contact>, column: ContactColumn) -> Val<'a>
-    ensures { shown result ≡ contact_cell (option_copied contact.entry) column }
+/// The text of a column on a contact. All its columns are texts.
+pub(crate) fn contact_text(contact: Option<&Contact>, column: ContactColumn) -> &str
+    ensures { contact_cell (option_copied contact.entry) column ≡ Words result.now }
 {
     let Some(contact) = contact else {
-        return Val::Str("");
+        return "";
     };
     match column {
-        ContactColumn::Name => Val::Str(contact.contact_name.as_str()),
-        ContactColumn::Alias => Val::Str(contact.alias.as_str()),
-        ContactColumn::Email => Val::Str(contact.email.as_str()),
-        ContactColumn::Pager => Val::Str(contact.pager.as_str()),
-        ContactColumn::HostNotificationPeriod => {
-            Val::Str(contact.host_notification_period.as_str())
-        }
-        ContactColumn::ServiceNotificationPeriod => {
-            Val::Str(contact.service_notification_period.as_str())
-        }
+        ContactColumn::Name => contact.contact_name.as_str(),
+        ContactColumn::Alias => contact.alias.as_str(),
+        ContactColumn::Email => contact.email.as_str(),
+        ContactColumn::Pager => contact.pager.as_str(),
+        ContactColumn::HostNotificationPeriod => contact.host_notification_period.as_str(),
+        ContactColumn::ServiceNotificationPeriod => contact.service_notification_period.as_str(),
     }
 }
 
-pub(crate) fn command_value<'a>(command: Option<&'a Command>, column: CommandColumn) -> Val<'a>
-    ensures { shown result ≡ command_cell (option_copied command.entry) column }
+/// The text of a column on a command. All its columns are texts.
+pub(crate) fn command_text(command: Option<&Command>, column: CommandColumn) -> &str
+    ensures { command_cell (option_copied command.entry) column ≡ Words result.now }
 {
     let Some(command) = command else {
-        return Val::Str("");
+        return "";
     };
     match column {
-        CommandColumn::Name => Val::Str(command.command_name.as_str()),
-        CommandColumn::Line => Val::Str(command.command_line.as_str()),
+        CommandColumn::Name => command.command_name.as_str(),
+        CommandColumn::Line => command.command_line.as_str(),
     }
 }
 
-pub(crate) fn period_value<'a>(period: Option<&'a Period>, column: PeriodColumn) -> Val<'a>
-    ensures { shown result ≡ period_cell (option_copied period.entry) column }
+/// The text of a column on a time period. All its columns are texts.
+pub(crate) fn period_text(period: Option<&Period>, column: PeriodColumn) -> &str
+    ensures { period_cell (option_copied period.entry) column ≡ Words result.now }
 {
     let Some(period) = period else {
-        return Val::Str("");
+        return "";
     };
     match column {
-        PeriodColumn::Name => Val::Str(period.timeperiod_name.as_str()),
-        PeriodColumn::Alias => Val::Str(period.alias.as_str()),
+        PeriodColumn::Name => period.timeperiod_name.as_str(),
+        PeriodColumn::Alias => period.alias.as_str(),
     }
 }

@@ -1,19 +1,39 @@
 ghost use Rattle.std.specs.Prelude.{◌≡◌, IfOk, IsOk};
 ghost use Rattle.std.specs.List.{slice_get};
-ghost use Rattle.std.specs.Option.{option_copied};
-ghost use Rattle.lq_columns.specs.Plain.{IsPlain};
-ghost use Rattle.lq_records.specs.Kinds.{contact_group_kind, host_group_kind, service_group_kind};
-ghost use Rattle.lq_records.specs.Value.{shown};
+ghost use Rattle.std.specs.Option.{IfSome, IsSome, option_copied};
+ghost use Rattle.lq_columns.specs.Plain.{IsPlain, IsText};
+ghost use Rattle.lq_records.specs.declared.base.Base.{Base};
+ghost use Rattle.lq_schema.specs.Kinds.{contact_group_kind, host_group_kind, service_group_kind};
+ghost use Rattle.lq_schema.specs.Value.{Words, shown};
 ghost use Rattle.lq_tables.specs.Cells.{contact_group_cell, host_group_cell, host_group_part, service_group_cell, service_group_part};
 
 use crate::pairs::pairs_of;
-use lq_columns::{Scope, contact_names, empty_value, host_names, hosts_value, services_value};
+use lq_columns::{Scope, empty_text, empty_value, hosts_value, names_of, services_value};
 use lq_live::Live;
-use lq_records::{
-    Base, ContactGroup, ContactGroupColumn, HostGroup, HostGroupColumn, HostGroupId, Memory,
-    OwnColumn, ServiceGroup, ServiceGroupColumn, ServiceGroupId, Val,
-};
+use lq_records::{Base, ContactGroup, HostGroupId, Memory, ServiceGroupId};
+use lq_schema::{ContactGroupColumn, HostGroupColumn, OwnColumn, ServiceGroupColumn, Val};
 use std::alloc::Global;
+
+// ---- groups of contacts
+
+/// The text of a column on a group of contacts, None for its members.
+pub(crate) fn contact_group_text(
+    group: Option<&ContactGroup>,
+    column: ContactGroupColumn,
+) -> Option<&str>
+    ensures value { (base : Base) → IfSome result (λ text.
+        contact_group_cell base (option_copied group.entry) column ≡ Words text.now) }
+    ensures given { IsText (contact_group_kind column) → IsSome result }
+{
+    let Some(group) = group else {
+        return empty_text(OwnColumn::ContactGroup(column).kind());
+    };
+    match column {
+        ContactGroupColumn::Name => Some(group.contactgroup_name.as_str()),
+        ContactGroupColumn::Alias => Some(group.alias.as_str()),
+        ContactGroupColumn::Members => None,
+    }
+}
 
 /// The value of a column on a group of contacts. Its members take memory, which is the only error.
 pub(crate) fn contact_group_value<'a>(
@@ -22,7 +42,8 @@ pub(crate) fn contact_group_value<'a>(
     group: Option<&'a ContactGroup>,
     column: ContactGroupColumn,
 ) -> Result<Val<'a>, Memory>
-    ensures value { IfOk result (λ v. shown v ≡ contact_group_cell base.now (option_copied group.entry) column) }
+    ensures value { IfOk result (λ v.
+        shown v ≡ contact_group_cell base.now (option_copied group.entry) column) }
     ensures plain { IsPlain (contact_group_kind column) → IsOk result }
 {
     let Some(group) = group else {
@@ -32,13 +53,39 @@ pub(crate) fn contact_group_value<'a>(
         ContactGroupColumn::Name => Ok(Val::Str(group.contactgroup_name.as_str())),
         ContactGroupColumn::Alias => Ok(Val::Str(group.alias.as_str())),
         ContactGroupColumn::Members => {
-            let names = contact_names(alloc, base, group.members.as_slice())?;
+            let names = names_of(alloc, base, group.members.as_slice())?;
             Ok(Val::List(names))
         }
     }
 }
 
 // ---- groups of hosts
+
+/// The text of a column on a group of hosts, None for its members and counters.
+pub(crate) fn host_group_text(
+    live: &Live,
+    id: Option<HostGroupId>,
+    column: HostGroupColumn,
+) -> Option<&str>
+    ensures value { IfSome result (λ text.
+        host_group_part live.now.state id column ≡ Words text.now) }
+    ensures given { IsText (host_group_kind column) → IsSome result }
+{
+    let Some(id) = id else {
+        return empty_text(OwnColumn::HostGroup(column).kind());
+    };
+    let Some(group) = live.base().host_groups.as_slice().get(id.0 as usize) else {
+        return empty_text(OwnColumn::HostGroup(column).kind());
+    };
+    match column {
+        HostGroupColumn::Name => Some(group.hostgroup_name.as_str()),
+        HostGroupColumn::Alias => Some(group.alias.as_str()),
+        HostGroupColumn::Notes => Some(group.notes.as_str()),
+        HostGroupColumn::NotesUrl => Some(group.notes_url.as_str()),
+        HostGroupColumn::ActionUrl => Some(group.action_url.as_str()),
+        _ => None,
+    }
+}
 
 /// The value of a column on a group of hosts. Its members take memory, which is the only error.
 pub(crate) fn host_group_value<'a>(
@@ -53,21 +100,7 @@ pub(crate) fn host_group_value<'a>(
     let Some(id) = id else {
         return Ok(empty_value(alloc, OwnColumn::HostGroup(column).kind()));
     };
-    let group = live.base().host_groups.as_slice().get(id.0 as usize);
-    host_group_cell(alloc, live, id, group, column)
-}
-
-fn host_group_cell<'a>(
-    alloc: Global,
-    live: &'a Live,
-    id: HostGroupId,
-    group: Option<&'a HostGroup>,
-    column: HostGroupColumn,
-) -> Result<Val<'a>, Memory>
-    ensures value { IfOk result (λ v. shown v ≡ host_group_cell live.now.state id (option_copied group.entry) column) }
-    ensures plain { IsPlain (host_group_kind column) → IsOk result }
-{
-    let Some(group) = group else {
+    let Some(group) = live.base().host_groups.as_slice().get(id.0 as usize) else {
         return Ok(empty_value(alloc, OwnColumn::HostGroup(column).kind()));
     };
     match column {
@@ -77,17 +110,43 @@ fn host_group_cell<'a>(
         HostGroupColumn::NotesUrl => Ok(Val::Str(group.notes_url.as_str())),
         HostGroupColumn::ActionUrl => Ok(Val::Str(group.action_url.as_str())),
         HostGroupColumn::Members => {
-            let names = host_names(alloc, live.base(), group.members.as_slice())?;
+            let names = names_of(alloc, live.base(), group.members.as_slice())?;
             Ok(Val::List(names))
         }
         HostGroupColumn::Hosts(column) => Ok(hosts_value(live, id, column)),
         HostGroupColumn::Services(column) => {
-            Ok(services_value(live, Scope::HostGroup(id), column))
+            Ok(services_value(alloc, live, Scope::HostGroup(id), column))
         }
     }
 }
 
 // ---- groups of services
+
+/// The text of a column on a group of services, None for its members and counters.
+pub(crate) fn service_group_text(
+    live: &Live,
+    id: Option<ServiceGroupId>,
+    column: ServiceGroupColumn,
+) -> Option<&str>
+    ensures value { IfSome result (λ text.
+        service_group_part live.now.state id column ≡ Words text.now) }
+    ensures given { IsText (service_group_kind column) → IsSome result }
+{
+    let Some(id) = id else {
+        return empty_text(OwnColumn::ServiceGroup(column).kind());
+    };
+    let Some(group) = live.base().service_groups.as_slice().get(id.0 as usize) else {
+        return empty_text(OwnColumn::ServiceGroup(column).kind());
+    };
+    match column {
+        ServiceGroupColumn::Name => Some(group.servicegroup_name.as_str()),
+        ServiceGroupColumn::Alias => Some(group.alias.as_str()),
+        ServiceGroupColumn::Notes => Some(group.notes.as_str()),
+        ServiceGroupColumn::NotesUrl => Some(group.notes_url.as_str()),
+        ServiceGroupColumn::ActionUrl => Some(group.action_url.as_str()),
+        _ => None,
+    }
+}
 
 /// The value of a column on a group of services. Its members take memory, which is the only error.
 pub(crate) fn service_group_value<'a>(
@@ -102,21 +161,7 @@ pub(crate) fn service_group_value<'a>(
     let Some(id) = id else {
         return Ok(empty_value(alloc, OwnColumn::ServiceGroup(column).kind()));
     };
-    let group = live.base().service_groups.as_slice().get(id.0 as usize);
-    service_group_cell(alloc, live, id, group, column)
-}
-
-fn service_group_cell<'a>(
-    alloc: Global,
-    live: &'a Live,
-    id: ServiceGroupId,
-    group: Option<&'a ServiceGroup>,
-    column: ServiceGroupColumn,
-) -> Result<Val<'a>, Memory>
-    ensures value { IfOk result (λ v. shown v ≡ service_group_cell live.now.state id (option_copied group.entry) column) }
-    ensures plain { IsPlain (service_group_kind column) → IsOk result }
-{
-    let Some(group) = group else {
+    let Some(group) = live.base().service_groups.as_slice().get(id.0 as usize) else {
         return Ok(empty_value(alloc, OwnColumn::ServiceGroup(column).kind()));
     };
     match column {
@@ -130,7 +175,7 @@ fn service_group_cell<'a>(
             Ok(Val::Pairs(pairs))
         }
         ServiceGroupColumn::Services(column) => {
-            Ok(services_value(live, Scope::ServiceGroup(id), column))
+            Ok(services_value(alloc, live, Scope::ServiceGroup(id), column))
         }
     }
 }

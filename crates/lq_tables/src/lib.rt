@@ -5,16 +5,17 @@ mod about;
 mod cells;
 mod contacts;
 mod groups;
+mod listed;
 mod listing;
 mod pairs;
+mod plain;
 mod program;
 mod remarks;
 mod row;
 mod schema;
-#[cfg(test)]
-mod tests;
 mod value;
 
 pub use cells::cell;
 pub use listing::{Rows, rows};
+pub use plain::{number_cell, text_cell};
 pub use row::Row;

@@ -5,21 +5,23 @@ ghost use Rattle.lq_tables.specs.Rows.{group_service_rows, host_group_rows, numb
 ghost use Rattle.lq_tables.specs.Schema.{schema};
 ghost use Rattle.lq_tables.specs.declared.row.Row.TheVariants as row;
 
+use crate::listed::{Listed, narrow};
 use crate::row::Row;
 use crate::schema::entry_count;
+use lq_events::{Comment, Downtime};
 use lq_live::Live;
 use lq_records::{
-    CommandId, Comment, ContactGroupId, ContactId, Downtime, HostGroup, HostGroupId, HostId, Items,
-    Memory, PeriodId, Service, ServiceGroup, ServiceGroupId, ServiceId, Table,
+    HostGroup, HostGroupId, HostId, Items, Memory, Service, ServiceGroup, ServiceGroupId, ServiceId,
 };
-use std::alloc::{AllocError, Global};
+use lq_schema::Table;
+use std::alloc::Global;
 
 /// Rows of a table, in order.
 pub type Rows = Items<Row>;
 
-/// The rows of a table, in order: objects as the object file lists them, downtimes and comments by their
-/// ids, the members of each group as the group lists them. The row of each downtime and of each comment is
-/// about that one. The only error is want of memory.
+/// The rows of a table, in order: objects as the object file lists them, downtimes and comments by
+/// their ids, the members of each group as the group lists them. The row of each downtime and of
+/// each comment is about that one. The only error is out of memory.
 pub fn rows(alloc: Global, live: &Live, t: Table) -> Result<Rows, Memory>
     ensures all { IfOk result (λ rows. rows ≡ rows_of live.now.state t) }
     ensures own { IfOk result (λ rows. IsOwn live.now.state t rows) }
@@ -27,14 +29,14 @@ pub fn rows(alloc: Global, live: &Live, t: Table) -> Result<Rows, Memory>
     let base = live.base();
     let (downtimes, comments) = (live.downtimes(), live.comments());
     let rows = match t {
-        Table::Hosts => host_rows(alloc, base.hosts.len())?,
-        Table::Services => service_rows(alloc, base.services.len())?,
-        Table::HostGroups => host_group_rows(alloc, base.host_groups.len())?,
-        Table::ServiceGroups => service_group_rows(alloc, base.service_groups.len())?,
-        Table::Contacts => contact_rows(alloc, base.contacts.len())?,
-        Table::ContactGroups => contact_group_rows(alloc, base.contact_groups.len())?,
-        Table::Commands => command_rows(alloc, base.commands.len())?,
-        Table::TimePeriods => period_rows(alloc, base.periods.len())?,
+        Table::Hosts => Listed::Hosts.rows(alloc, base.hosts.len())?,
+        Table::Services => Listed::Services.rows(alloc, base.services.len())?,
+        Table::HostGroups => Listed::HostGroups.rows(alloc, base.host_groups.len())?,
+        Table::ServiceGroups => Listed::ServiceGroups.rows(alloc, base.service_groups.len())?,
+        Table::Contacts => Listed::Contacts.rows(alloc, base.contacts.len())?,
+        Table::ContactGroups => Listed::ContactGroups.rows(alloc, base.contact_groups.len())?,
+        Table::Commands => Listed::Commands.rows(alloc, base.commands.len())?,
+        Table::TimePeriods => Listed::Periods.rows(alloc, base.periods.len())?,
         Table::Downtimes => downtime_rows(alloc, downtimes)?,
         Table::Comments => comment_rows(alloc, comments)?,
         Table::Status => status_rows(alloc)?,
@@ -50,90 +52,9 @@ pub fn rows(alloc: Global, live: &Live, t: Table) -> Result<Rows, Memory>
     Ok(Items::from_vec(rows))
 }
 
-/// A number of objects, or a place among them. No memory holds 2 ^ 32 objects.
-fn narrow(number: usize) -> Result<u32, Memory>
-    ensures { IfOk result (λ narrow. narrow ≡ number) }
-{
-    match u32::try_from(number) {
-        Ok(narrow) => Ok(narrow),
-        Err(_) => Err(AllocError),
-    }
-}
-
-fn host_rows(alloc: Global, count: usize) -> Result<Vec<Row>, Memory>
-    ensures { IfOk result (λ rows. rows.items ≡ map (λ place. row.Host (record { 0 = place })) (range_with_len 0 count)) }
-{
-    let count = narrow(count)?;
-    (0..count)
-        .map(|place| Row::Host(HostId(place)))
-        .collect(alloc)
-}
-
-fn service_rows(alloc: Global, count: usize) -> Result<Vec<Row>, Memory>
-    ensures { IfOk result (λ rows. rows.items ≡ map (λ place. row.Service (record { 0 = place })) (range_with_len 0 count)) }
-{
-    let count = narrow(count)?;
-    (0..count)
-        .map(|place| Row::Service(ServiceId(place)))
-        .collect(alloc)
-}
-
-fn host_group_rows(alloc: Global, count: usize) -> Result<Vec<Row>, Memory>
-    ensures { IfOk result (λ rows. rows.items ≡ map (λ place. row.HostGroup (record { 0 = place })) (range_with_len 0 count)) }
-{
-    let count = narrow(count)?;
-    (0..count)
-        .map(|place| Row::HostGroup(HostGroupId(place)))
-        .collect(alloc)
-}
-
-fn service_group_rows(alloc: Global, count: usize) -> Result<Vec<Row>, Memory>
-    ensures { IfOk result (λ rows. rows.items ≡ map (λ place. row.ServiceGroup (record { 0 = place })) (range_with_len 0 count)) }
-{
-    let count = narrow(count)?;
-    (0..count)
-        .map(|place| Row::ServiceGroup(ServiceGroupId(place)))
-        .collect(alloc)
-}
-
-fn contact_rows(alloc: Global, count: usize) -> Result<Vec<Row>, Memory>
-    ensures { IfOk result (λ rows. rows.items ≡ map (λ place. row.Contact (record { 0 = place })) (range_with_len 0 count)) }
-{
-    let count = narrow(count)?;
-    (0..count)
-        .map(|place| Row::Contact(ContactId(place)))
-        .collect(alloc)
-}
-
-fn contact_group_rows(alloc: Global, count: usize) -> Result<Vec<Row>, Memory>
-    ensures { IfOk result (λ rows. rows.items ≡ map (λ place. row.ContactGroup (record { 0 = place })) (range_with_len 0 count)) }
-{
-    let count = narrow(count)?;
-    (0..count)
-        .map(|place| Row::ContactGroup(ContactGroupId(place)))
-        .collect(alloc)
-}
-
-fn command_rows(alloc: Global, count: usize) -> Result<Vec<Row>, Memory>
-    ensures { IfOk result (λ rows. rows.items ≡ map (λ place. row.Command (record { 0 = place })) (range_with_len 0 count)) }
-{
-    let count = narrow(count)?;
-    (0..count)
-        .map(|place| Row::Command(CommandId(place)))
-        .collect(alloc)
-}
-
-fn period_rows(alloc: Global, count: usize) -> Result<Vec<Row>, Memory>
-    ensures { IfOk result (λ rows. rows.items ≡ map (λ place. row.Period (record { 0 = place })) (range_with_len 0 count)) }
-{
-    let count = narrow(count)?;
-    (0..count)
-        .map(|place| Row::Period(PeriodId(place)))
-        .collect(alloc)
-}
-
 fn downtime_rows(alloc: Global, downtimes: &[Downtime]) -> Result<Vec<Row>, Memory>
-    ensures { IfOk result (λ rows. rows.items ≡ map (λ downtime. row.Downtime downtime.id) downtimes.now) }
+    ensures { IfOk result (λ rows.
+        rows.items ≡ map (λ downtime. row.Downtime downtime.id) downtimes.now) }
 {
     downtimes
         .iter()
@@ -142,7 +63,8 @@ fn downtime_rows(alloc: Global, downtimes: &[Downtime]) -> Result<Vec<Row>, Memo
 }
 
 fn comment_rows(alloc: Global, comments: &[Comment]) -> Result<Vec<Row>, Memory>
-    ensures { IfOk result (λ rows. rows.items ≡ map (λ comment. row.Comment comment.id) comments.now) }
+    ensures { IfOk result (λ rows.
+        rows.items ≡ map (λ comment. row.Comment comment.id) comments.now) }
 {
     comments
         .iter()
@@ -206,7 +128,8 @@ fn push_services(
     group: ServiceGroupId,
     members: &[ServiceId],
 ) -> Result<(), Memory>
-    ensures { OnOk result (rows.new.items ≡ rows.old.items ++ map (row.ServiceOf group) members.now) }
+    ensures { OnOk result (rows.new.items
+        ≡ rows.old.items ++ map (row.ServiceOf group) members.now) }
 {
     for service in members {
         rows.push(Row::ServiceOf(group, *service))?;
@@ -219,7 +142,8 @@ fn services_by_host_group(
     services: &[Service],
     groups: &[HostGroup],
 ) -> Result<Vec<Row>, Memory>
-    ensures { IfOk result (λ rows. rows.items ≡ flat_map (group_service_rows services.now) (numbered groups.now)) }
+    ensures { IfOk result (λ rows.
+        rows.items ≡ flat_map (group_service_rows services.now) (numbered groups.now)) }
 {
     let mut rows = Vec::new(alloc);
     for (place, group) in groups.iter().enumerate() {
@@ -241,7 +165,8 @@ fn push_services_of(
     group: HostGroupId,
     members: &[HostId],
 ) -> Result<(), Memory>
-    ensures { OnOk result (rows.new.items ≡ rows.old.items ++ flat_map (service_rows services.now group) members.now) }
+    ensures { OnOk result (rows.new.items
+        ≡ rows.old.items ++ flat_map (service_rows services.now group) members.now) }
 {
     for host in members {
         let found = services_of(alloc, services, group, *host)?;

@@ -7,14 +7,14 @@ use lq_records::{Base, Items, Memory, Service, ServiceId, Text};
 use std::alloc::Global;
 
 /// How a list names a service: by its host's name and its description.
-#[derive(Clone, Copy, Debug)]
+#[derive(Clone, Copy)]
 struct Pair<'a> {
     host: &'a str,
     description: &'a str,
 }
 
-/// The services at some places, in the order of the ids, each as its host's name and its description. An
-/// id that names nothing is left out. The only error is want of memory.
+/// The services at some places, in the order of the ids, each as its host's name and its
+/// description. An id that names nothing is left out. The only error is out of memory.
 pub(crate) fn pairs_of(
     alloc: Global,
     base: &Base,
@@ -35,7 +35,9 @@ fn push_pair(
     pairs: &mut Items<(Text, Text)>,
     pair: Option<Pair<'_>>,
 ) -> Result<(), Memory>
-    ensures { OnOk result (pairs.new ≡ pairs.old ++ option_to_list (option_map (λ pair. (pair.host.now, pair.description.now)) pair.entry)) }
+    ensures { OnOk result (pairs.new
+        ≡ pairs.old
+        ++ option_to_list (option_map (λ pair. (pair.host.now, pair.description.now)) pair.entry)) }
 {
     let Some(pair) = pair else {
         return Ok(());
@@ -46,7 +48,8 @@ fn push_pair(
 }
 
 fn pair_at(base: &Base, id: ServiceId) -> Option<Pair<'_>>
-    ensures { option_map (λ pair. (pair.host.now, pair.description.now)) result ≡ pair_at base.now id }
+    ensures { option_map (λ pair. (pair.host.now, pair.description.now)) result
+        ≡ pair_at base.now id }
 {
     match base.services.as_slice().get(id.0 as usize) {
         Some(service) => pair_of(base, service),
@@ -55,7 +58,8 @@ fn pair_at(base: &Base, id: ServiceId) -> Option<Pair<'_>>
 }
 
 fn pair_of<'a>(base: &'a Base, service: &'a Service) -> Option<Pair<'a>>
-    ensures { option_map (λ pair. (pair.host.now, pair.description.now)) result ≡ pair_of base.now service.now }
+    ensures { option_map (λ pair. (pair.host.now, pair.description.now)) result
+        ≡ pair_of base.now service.now }
 {
     match base.hosts.as_slice().get(service.host.0 as usize) {
         Some(host) => Some(Pair {

@@ -1,24 +1,60 @@
 ghost use Rattle.std.specs.Prelude.{◌≡◌, IfOk, IsOk};
-ghost use Rattle.lq_records.specs.Kinds.{own_kind, program_kind};
-ghost use Rattle.lq_records.specs.Names.{full_name};
-ghost use Rattle.lq_records.specs.Value.{Words, shown};
+ghost use Rattle.std.specs.Option.{IfSome, IsSome};
+ghost use Rattle.lq_columns.specs.Plain.{IsNumber, IsText};
+ghost use Rattle.lq_live.specs.State.{State};
+ghost use Rattle.lq_schema.specs.Kinds.{own_kind, program_kind, schema_kind};
+ghost use Rattle.lq_schema.specs.Names.{full_name};
+ghost use Rattle.lq_schema.specs.Value.{Number, Words, shown};
 ghost use Rattle.lq_tables.specs.Light.{IsLight};
 ghost use Rattle.lq_tables.specs.Parts.{program_cell, program_part, schema_cell, type_name};
-ghost use Rattle.lq_records.specs.declared.columns.OwnColumn.TheVariants as own;
+ghost use Rattle.lq_schema.specs.declared.columns.OwnColumn.TheVariants as own;
 
 use crate::row::Row;
 use crate::schema::Entry;
 use crate::value::flag;
-use lq_columns::empty_value;
+use lq_columns::{empty_number, empty_text, empty_value};
 use lq_live::Live;
-use lq_records::{
-    Col, ColKind, Memory, OwnColumn, ProgramColumn, SchemaColumn, Text, Val, column_name, kind,
-};
+use lq_records::{Memory, Text};
+use lq_schema::{Col, ColKind, OwnColumn, ProgramColumn, SchemaColumn, Val, column_name, kind};
 use std::alloc::Global;
 
 // ---- the program
 
-/// The value of a column on the program: empty in every row but that of the status table.
+/// The number of a column on the program, None where it is a text. 0 in every row but that of the
+/// status table.
+pub(crate) fn program_number(live: &Live, row: Row, column: ProgramColumn) -> Option<i128>
+    ensures value { IfSome result (λ number.
+        program_part live.now.state row column ≡ Number number) }
+    ensures given { IsNumber (program_kind column) → IsSome result }
+{
+    let Row::Status = row else {
+        return empty_number(OwnColumn::Program(column).kind());
+    };
+    match column {
+        ProgramColumn::EnableNotifications => Some(flag(live.notifications())),
+        ProgramColumn::NumHosts => Some(live.base().hosts.len() as i128),
+        ProgramColumn::NumServices => Some(live.base().services.len() as i128),
+        ProgramColumn::PresentSecond => Some(i128::from(live.now())),
+        ProgramColumn::ProgramVersion => None,
+    }
+}
+
+/// The text of a column on the program, None where it is a number. Empty in every row but that of
+/// the status table.
+pub(crate) fn program_text(row: Row, column: ProgramColumn) -> Option<&'static str>
+    ensures value { (s : State) → IfSome result (λ text.
+        program_part s row column ≡ Words text.now) }
+    ensures given { IsText (program_kind column) → IsSome result }
+{
+    let Row::Status = row else {
+        return empty_text(OwnColumn::Program(column).kind());
+    };
+    match column {
+        ProgramColumn::ProgramVersion => Some("lqd 1"),
+        _ => None,
+    }
+}
+
 pub(crate) fn program_value(
     alloc: Global,
     live: &Live,
@@ -27,18 +63,12 @@ pub(crate) fn program_value(
 ) -> Val<'static>
     ensures { shown result ≡ program_part live.now.state row column }
 {
-    match row {
-        Row::Status => value_of_program(live, column),
-        _ => empty_value(alloc, OwnColumn::Program(column).kind()),
-    }
-}
-
-fn value_of_program(live: &Live, column: ProgramColumn) -> Val<'static>
-    ensures { shown result ≡ program_cell live.now.state column }
-{
+    let Row::Status = row else {
+        return empty_value(alloc, OwnColumn::Program(column).kind());
+    };
     match column {
         ProgramColumn::ProgramVersion => Val::Str("lqd 1"),
-        ProgramColumn::EnableNotifications => flag(live.notifications()),
+        ProgramColumn::EnableNotifications => Val::Int(flag(live.notifications())),
         ProgramColumn::NumHosts => Val::Int(live.base().hosts.len() as i128),
         ProgramColumn::NumServices => Val::Int(live.base().services.len() as i128),
         ProgramColumn::PresentSecond => Val::Int(i128::from(live.now())),
@@ -47,7 +77,23 @@ fn value_of_program(live: &Live, column: ProgramColumn) -> Val<'static>
 
 // ---- the schema
 
-/// The value of a column on a column. Its name and description take memory, which is the only error.
+/// The text of a column on a column, None where it has to be put together.
+pub(crate) fn schema_text(entry: Option<Entry>, column: SchemaColumn) -> Option<&'static str>
+    ensures value { IfSome result (λ text. schema_cell entry column ≡ Words text.now) }
+    ensures given { IsLight (own.Schema column) → IsSome result }
+{
+    let Some(entry) = entry else {
+        return Some("");
+    };
+    match column {
+        SchemaColumn::Table => Some(entry.table.name()),
+        SchemaColumn::Type => Some(type_name(kind(entry.column))),
+        SchemaColumn::Name | SchemaColumn::Description => None,
+    }
+}
+
+/// The value of a column on a column. Its name and description take memory, which is the only
+/// error.
 pub(crate) fn schema_value(
     alloc: Global,
     entry: Option<Entry>,
@@ -60,8 +106,8 @@ pub(crate) fn schema_value(
         return Ok(Val::Str(""));
     };
     match column {
-        SchemaColumn::Table => Ok(Val::Str(entry.table.name())),
         SchemaColumn::Name | SchemaColumn::Description => whole_name(alloc, entry.column),
+        SchemaColumn::Table => Ok(Val::Str(entry.table.name())),
         SchemaColumn::Type => Ok(Val::Str(type_name(kind(entry.column)))),
     }
 }

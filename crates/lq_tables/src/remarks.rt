@@ -1,20 +1,63 @@
+//! Downtimes and comments.
+
 ghost use Rattle.std.specs.Prelude.{◌≡◌};
-ghost use Rattle.std.specs.Option.{option_copied};
-ghost use Rattle.lq_live.specs.State.{is_service};
-ghost use Rattle.lq_records.specs.Kinds.{comment_kind, downtime_kind};
-ghost use Rattle.lq_records.specs.Value.{empty_value, shown};
+ghost use Rattle.std.specs.Option.{IfSome, IsSome, option_copied};
+ghost use Rattle.lq_columns.specs.Plain.{IsNumber, IsText};
+ghost use Rattle.lq_schema.specs.Kinds.{comment_kind, downtime_kind};
+ghost use Rattle.lq_schema.specs.Value.{Number, Words, empty_value, shown};
 ghost use Rattle.lq_tables.specs.Parts.{comment_cell, downtime_cell};
 
-use crate::value::flag;
-use lq_columns::empty_value;
-use lq_records::{Comment, CommentColumn, Downtime, DowntimeColumn, Object, OwnColumn, Val};
+use crate::value::service_flag;
+use lq_columns::{empty_number, empty_text, empty_value};
+use lq_events::{Comment, Downtime};
+use lq_schema::{CommentColumn, DowntimeColumn, OwnColumn, Val};
 use std::alloc::Global;
 
-pub(crate) fn downtime_value<'a>(
+// ---- downtimes
+
+/// The number of a column on a downtime, None where it is a text.
+pub(crate) fn downtime_number(downtime: Option<&Downtime>, column: DowntimeColumn) -> Option<i128>
+    ensures value { IfSome result (λ number.
+        downtime_cell (option_copied downtime.entry) column ≡ Number number) }
+    ensures given { IsNumber (downtime_kind column) → IsSome result }
+{
+    let Some(downtime) = downtime else {
+        return empty_number(OwnColumn::Downtime(column).kind());
+    };
+    Some(match column {
+        DowntimeColumn::Id => i128::from(downtime.id),
+        DowntimeColumn::EntryTime => i128::from(downtime.entry_time),
+        DowntimeColumn::StartTime => i128::from(downtime.start),
+        DowntimeColumn::EndTime => i128::from(downtime.end),
+        DowntimeColumn::Fixed => 1,
+        DowntimeColumn::Duration => i128::from(downtime.duration),
+        DowntimeColumn::TriggeredBy => 0,
+        DowntimeColumn::IsService => service_flag(downtime.object),
+        _ => return None,
+    })
+}
+
+/// The text of a column on a downtime, None where it is a number.
+pub(crate) fn downtime_text(downtime: Option<&Downtime>, column: DowntimeColumn) -> Option<&str>
+    ensures value { IfSome result (λ text.
+        downtime_cell (option_copied downtime.entry) column ≡ Words text.now) }
+    ensures given { IsText (downtime_kind column) → IsSome result }
+{
+    let Some(downtime) = downtime else {
+        return empty_text(OwnColumn::Downtime(column).kind());
+    };
+    match column {
+        DowntimeColumn::Author => Some(downtime.author.as_str()),
+        DowntimeColumn::Comment => Some(downtime.comment.as_str()),
+        _ => None,
+    }
+}
+
+pub(crate) fn downtime_value(
     alloc: Global,
-    downtime: Option<&'a Downtime>,
+    downtime: Option<&Downtime>,
     column: DowntimeColumn,
-) -> Val<'a>
+) -> Val<'_>
     ensures { shown result ≡ downtime_cell (option_copied downtime.entry) column }
 {
     let Some(downtime) = downtime else {
@@ -30,15 +73,52 @@ pub(crate) fn downtime_value<'a>(
         DowntimeColumn::Fixed => Val::Int(1),
         DowntimeColumn::Duration => Val::Int(i128::from(downtime.duration)),
         DowntimeColumn::TriggeredBy => Val::Int(0),
-        DowntimeColumn::IsService => flag(is_service(downtime.object)),
+        DowntimeColumn::IsService => Val::Int(service_flag(downtime.object)),
     }
 }
 
-pub(crate) fn comment_value<'a>(
+// ---- comments
+
+/// The number of a column on a comment, None where it is a text.
+pub(crate) fn comment_number(comment: Option<&Comment>, column: CommentColumn) -> Option<i128>
+    ensures value { IfSome result (λ number.
+        comment_cell (option_copied comment.entry) column ≡ Number number) }
+    ensures given { IsNumber (comment_kind column) → IsSome result }
+{
+    let Some(comment) = comment else {
+        return empty_number(OwnColumn::Comment(column).kind());
+    };
+    Some(match column {
+        CommentColumn::Id => i128::from(comment.id),
+        CommentColumn::EntryTime => i128::from(comment.time),
+        CommentColumn::EntryType => i128::from(comment.entry_type),
+        CommentColumn::Persistent => i128::from(comment.persistent),
+        CommentColumn::IsService => service_flag(comment.object),
+        _ => return None,
+    })
+}
+
+/// The text of a column on a comment, None where it is a number.
+pub(crate) fn comment_text(comment: Option<&Comment>, column: CommentColumn) -> Option<&str>
+    ensures value { IfSome result (λ text.
+        comment_cell (option_copied comment.entry) column ≡ Words text.now) }
+    ensures given { IsText (comment_kind column) → IsSome result }
+{
+    let Some(comment) = comment else {
+        return empty_text(OwnColumn::Comment(column).kind());
+    };
+    match column {
+        CommentColumn::Author => Some(comment.author.as_str()),
+        CommentColumn::Comment => Some(comment.text.as_str()),
+        _ => None,
+    }
+}
+
+pub(crate) fn comment_value(
     alloc: Global,
-    comment: Option<&'a Comment>,
+    comment: Option<&Comment>,
     column: CommentColumn,
-) -> Val<'a>
+) -> Val<'_>
     ensures { shown result ≡ comment_cell (option_copied comment.entry) column }
 {
     let Some(comment) = comment else {
@@ -51,15 +131,6 @@ pub(crate) fn comment_value<'a>(
         CommentColumn::EntryTime => Val::Int(i128::from(comment.time)),
         CommentColumn::EntryType => Val::Int(i128::from(comment.entry_type)),
         CommentColumn::Persistent => Val::Int(i128::from(comment.persistent)),
-        CommentColumn::IsService => flag(is_service(comment.object)),
-    }
-}
-
-fn is_service(object: Object) -> bool
-    ensures { result ≡ is_service object }
-{
-    match object {
-        Object::Host(_) => false,
-        Object::Service(_) => true,
+        CommentColumn::IsService => Val::Int(service_flag(comment.object)),
     }
 }

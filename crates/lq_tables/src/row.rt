@@ -3,7 +3,7 @@ use lq_records::{
 };
 
 /// A row of a table.
-#[derive(Clone, Copy, Debug, PartialEq, Eq)]
+#[derive(Clone, Copy)]
 pub enum Row {
     Host(HostId),
     Service(ServiceId),
@@ -19,8 +19,8 @@ pub enum Row {
     Comment(u64),
     /// The program as a whole.
     Status,
-    /// A column by its place among all columns of all tables: the tables in their order, each with all
-    /// its columns in order.
+    /// A column by its place among all columns of all tables: the tables in their order, each with
+    /// all its columns in order.
     Column(u64),
     /// A host as a member of a group.
     HostOf(HostGroupId, HostId),

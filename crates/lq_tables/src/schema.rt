@@ -1,12 +1,12 @@
 ghost use Rattle.std.specs.Prelude.{◌≡◌, ◌≤◌, length};
 ghost use Rattle.std.specs.List.{flat_map, slice_get};
-ghost use Rattle.lq_records.specs.Schema.{tables};
+ghost use Rattle.lq_schema.specs.Schema.{tables};
 ghost use Rattle.lq_tables.specs.Schema.{entries_of, schema};
 
-use lq_records::{Col, Table, column_at, column_count, tables};
+use lq_schema::{Col, Table, column_at, column_count, tables};
 
 /// A column of a table.
-#[derive(Clone, Copy, Debug, PartialEq, Eq)]
+#[derive(Clone, Copy)]
 pub(crate) struct Entry {
     pub(crate) table: Table,
     pub(crate) column: Col,
@@ -19,7 +19,7 @@ pub(crate) fn entry_count() -> u64
     count_in(tables())
 }
 
-/// The column at a place among all columns of all tables. None behind the last one.
+/// The column at a place among all columns of all tables. None after the last one.
 pub(crate) fn entry_at(place: u64) -> Option<Entry>
     ensures { result ≡ slice_get schema place }
 {

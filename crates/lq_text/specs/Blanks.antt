@@ -2,7 +2,7 @@
 use Rattle.std.specs.Prelude.{ℕ, ◌-◌, ◌==◌, ◌||◌, Bool, not, List, length, take, drop, filter}
 use Rattle.std.specs.List.{prefix_len, suffix_len, slice_split}
 
--- a blank is a space or a tab
+-- a blank is a space, 32, or a tab, 9
 abbrev pub is_blank : ℕ → Bool
 is_blank byte = byte == 32 || byte == 9
 

@@ -2,7 +2,7 @@
 use Rattle.std.specs.Prelude.{ℕ, ℤ, pos, neg_ℤ, ◌+◌, ◌-◌, ◌*◌, ◌^◌, ◌<◌, ◌≤◌, ◌==◌, Bool, true, false, List, length, drop, fold, All, slice_index, if◌then◌else◌}
 use Rattle.std.specs.Char.{IsAsciiDigit}
 
--- the number that digits say
+-- the number that digits say; 48 is the byte of `0`
 abbrev pub number_of : List ℕ → ℕ
 number_of digits = fold (λ number digit. number * 10 + (digit - 48)) 0 digits
 
@@ -14,10 +14,11 @@ pub record IsNumber (bytes : List ℕ) : Type 0 where
 
 -- ---- with a sign
 
+-- whether the first byte is `-`, which is 45
 abbrev pub has_minus : List ℕ → Bool
 has_minus bytes = slice_index bytes 0 == 45
 
--- the digits behind an optional `-`
+-- the bytes after an optional `-`
 abbrev pub without_minus : List ℕ → List ℕ
 without_minus bytes = if has_minus bytes then drop 1 bytes else bytes
 
@@ -26,9 +27,10 @@ abbrev pub IsInRange : Bool → ℕ → Type 0
 IsInRange true number = number ≤ 2 ^ 63
 IsInRange false number = number < 2 ^ 63
 
--- the number that digits behind an optional `-` say
+-- the number that digits after an optional `-` say
 abbrev pub integer_of : List ℕ → ℤ
-integer_of bytes = if has_minus bytes then neg_ℤ (pos (number_of (drop 1 bytes))) else pos (number_of bytes)
+integer_of bytes =
+    if has_minus bytes then neg_ℤ (pos (number_of (drop 1 bytes))) else pos (number_of bytes)
 
 -- an optional `-` and one or more digits, whose number is in the range of 64 bits
 pub record IsInteger (bytes : List ℕ) : Type 0 where

@@ -5,17 +5,21 @@ use Rattle.std.specs.List.{prefix_len}
 use Rattle.lq_text.specs.Blanks.{without_front}
 use Rattle.lq_text.specs.Numbers.{number_of}
 
--- the digits behind the first byte of a line
+-- the digits after the first byte of a line
 abbrev pub digits_of : List ℕ → List ℕ
 digits_of line = take (prefix_len is_ascii_digit (drop 1 line)) (drop 1 line)
 
+-- whether a line begins with a second; 91 is `[`, and 93 is `]`
 abbrev pub has_second : List ℕ → Bool
-has_second line = (slice_index line 0 == 91) && nat_lt 0 (length (digits_of line)) && nat_le (length (digits_of line)) 12 && (slice_index line (length (digits_of line) + 1) == 93)
+has_second line =
+    (slice_index line 0 == 91)
+    && nat_lt 0 (length (digits_of line)) && nat_le (length (digits_of line)) 12
+    && (slice_index line (length (digits_of line) + 1) == 93)
 
 -- the second that a line begins with
 abbrev pub second_of : List ℕ → Option ℕ
 second_of line = if has_second line then Some (number_of (digits_of line)) else None
 
--- what stands behind the second and the blanks after it
+-- what follows the second and its blanks
 abbrev pub text_behind : List ℕ → List ℕ
 text_behind line = without_front (drop (length (digits_of line) + 2) line)

@@ -5,8 +5,6 @@ mod blanks;
 mod lines;
 mod numbers;
 mod seconds;
-#[cfg(test)]
-mod tests;
 
 pub use blanks::{is_blank, trim};
 pub use lines::next_line;

@@ -19,8 +19,8 @@ pub fn read_u64(b: &[u8]) -> Option<u64>
     }
 }
 
-/// The number that decimal digits behind an optional `-` say. None where there is no digit, where
-/// another byte stands among them, a `+` or a blank too, and where the number isn't one of `i64`.
+/// The number that decimal digits after an optional `-` say. None where there is no digit, where
+/// another byte stands among them, a `+` or a blank too, and where the number doesn't fit an `i64`.
 pub fn read_i64(b: &[u8]) -> Option<i64>
     ensures { SomeIff result (IsInteger b.now) (integer_of b.now) }
 {
@@ -32,10 +32,14 @@ pub fn read_i64(b: &[u8]) -> Option<i64>
     signed(negative, capped_number(digits))
 }
 
-/// A number with its sign. None where it isn't one of `i64`.
+/// One more than the largest `u64`: a number from here on fits neither a `u64` nor an `i64`.
+const CAP: u128 = 1 << 64;
+
+/// A number with its sign. None where it doesn't fit an `i64`.
 fn signed(negative: bool, number: u128) -> Option<i64>
     requires { number ≤ 2 ^ 64 }
-    ensures { SomeIff result (IsInRange negative number) (if negative then neg_ℤ (pos number) else pos number) }
+    ensures { SomeIff result (IsInRange negative number)
+        (if negative then neg_ℤ (pos number) else pos number) }
 {
     if negative {
         i64::try_from(-(number as i128)).ok()
@@ -44,20 +48,21 @@ fn signed(negative: bool, number: u128) -> Option<i64>
     }
 }
 
+/// Whether each byte is a decimal digit.
 fn are_digits(bytes: &[u8]) -> bool
     ensures { IsTrue result ↔ All IsAsciiDigit bytes.now }
 {
     bytes.iter().all(u8::is_ascii_digit)
 }
 
-/// The number that digits say, or 2 ^ 64 where it is larger.
+/// The number that digits say, or `CAP` where it is larger.
 pub(crate) fn capped_number(digits: &[u8]) -> u128
     requires { All IsAsciiDigit digits.now }
     ensures { result ≡ min (number_of digits.now) (2 ^ 64) }
 {
     let mut number: u128 = 0;
     for digit in digits {
-        number = (number * 10 + u128::from(*digit - b'0')).min(1 << 64);
+        number = (number * 10 + u128::from(*digit - b'0')).min(CAP);
     }
     number
 }

@@ -4,17 +4,20 @@ ghost use Rattle.std.specs.List.{prefix_len};
 ghost use Rattle.std.specs.Option.{option_map};
 ghost use Rattle.lq_text.specs.Numbers.{number_of};
 ghost use Rattle.lq_text.specs.Seconds.{second_of, text_behind};
-ghost use Rattle.lq_text.specs.declared.seconds.TheConstants.{MOST_DIGITS};
+ghost use Rattle.lq_text.specs.declared.seconds.TheConstants.{SECOND_DIGITS};
 
 use crate::blanks::blank_count;
 use crate::numbers::capped_number;
 
-/// The most digits that a second is written with.
-const MOST_DIGITS: usize = 12;
+/// The most digits that a second is written with. A line with one more begins with no second.
+const SECOND_DIGITS: usize = 12;
 
-/// The second in brackets that a line begins with, counted from the beginning of 1970, and the place
-/// of what stands behind it and the blanks after it. None where no `[`, 1 to 12 digits and `]` stand
-/// at the front.
+/// The bytes around the digits: `[` and `]`.
+const BRACKETS: usize = 2;
+
+/// The second in brackets that a line begins with, counted from the beginning of 1970, and how many
+/// bytes stand before the text that follows it and its blanks. None where the line doesn't begin
+/// with `[`, 1 to 12 digits and `]`.
 pub fn bracketed_second(line: &[u8]) -> Option<(u64, usize)>
     ensures second { option_map (λ found. found.0) result ≡ second_of line.now }
     ensures below { IfSome result (λ found. found.0 < 10 ^ 12) }
@@ -26,10 +29,10 @@ pub fn bracketed_second(line: &[u8]) -> Option<(u64, usize)>
     };
     let digits = front_digits(rest);
     let count = digits.len();
-    if count == 0 || count > MOST_DIGITS || rest.get(count) != Some(&b']') {
+    if count == 0 || count > SECOND_DIGITS || rest.get(count) != Some(&b']') {
         return None;
     }
-    let place = count + 2;
+    let place = count + BRACKETS;
     Some((short_number(digits), place + blank_count(&line[place..])))
 }
 
@@ -37,7 +40,7 @@ pub fn bracketed_second(line: &[u8]) -> Option<(u64, usize)>
 #[tactic(auto, using(crate::proofs::NumberLemmas::short_below))]
 fn short_number(digits: &[u8]) -> u64
     requires digits { All IsAsciiDigit digits.now }
-    requires short { length digits.now ≤ MOST_DIGITS }
+    requires short { length digits.now ≤ SECOND_DIGITS }
     ensures value { result ≡ number_of digits.now }
     ensures below { result < 10 ^ 12 }
 {

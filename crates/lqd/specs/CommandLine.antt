@@ -8,7 +8,7 @@ is_value word = bytes_eq word (codes "-") || not (slice_index word 0 == 45)
 abbrev pub is_end_of_options : List ℕ → Bool
 is_end_of_options word = bytes_eq word (codes "--")
 
--- the one value among the words behind the command; behind `--` each word is one
+-- the one value among the words after the command; after `--` each word is one
 abbrev pub one_value : List (List ℕ) → Option (List ℕ)
 one_value (word ∷ []) = if is_value word then Some word else None
 one_value (first ∷ second ∷ []) =

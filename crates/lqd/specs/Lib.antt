@@ -1,7 +1,4 @@
 pub mod CommandLine
-pub mod Csv
-pub mod Answer
-pub mod Body
 pub mod Replies
 pub mod Reading
 pub mod Session

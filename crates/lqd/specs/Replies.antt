@@ -1,7 +1,7 @@
 -- What a connection is answered, over all its messages.
 use Rattle.std.specs.Prelude.{ℕ, ◌+◌, nat_le, Bool, true, false, not, ◌||◌, Option, Some, None, Result, Ok, Err, List, [], ◌∷◌, ◌++◌, length, take, if◌then◌else◌}
 use Rattle.std.specs.List.{list_any}
-use Rattle.lq_records.specs.declared.update.Update.{Update}
+use Rattle.lq_events.specs.declared.update.Update.{Update}
 use Rattle.lq_commands.specs.Names.{KnownNames, names_of}
 use Rattle.lq_commands.specs.Orders.{order_of}
 use Rattle.lq_commands.specs.declared.order.Order.{Order}
@@ -10,23 +10,24 @@ use Rattle.lq_live.specs.Step.{step}
 use Rattle.lq_request.specs.Messages.{Piece, Query, Command, TooLong, Empty, More, messages}
 use Rattle.lq_request.specs.Request.{Refused, asked}
 use Rattle.lq_request.specs.declared.request.Request.{Request}
-use Rattle.lqd.specs.Answer.{answer_of}
+use Rattle.lq_query.specs.Answer.{answer_of}
 use Rattle.lqd.specs.declared.session.TheConstants.{MOST_MESSAGES}
 
 -- ---- one message
 
--- the bytes of a query's reply; a refusal writes no byte, since the header that asks for its text isn't built
+-- the bytes of a query's reply; a refusal writes no byte, since the header that asks for its text
+-- isn't built
 abbrev pub reply_to : Result Request Refused → State → List ℕ
 reply_to (Ok request) s = (answer_of request s).bytes
 reply_to (Err refused) s = []
 
--- whether the connection goes on behind a query
+-- whether the connection goes on after a query
 abbrev pub keeps : Result Request Refused → Bool
 keeps (Ok request) = request.keep
 keeps (Err refused) = refused.style.keep
 
--- The bytes that a message is answered with at a state. A too long message gets none, for the same reason as a
--- refused query. A command never gets a reply.
+-- The bytes that a message is answered with at a state. A too long message gets none, for the same
+-- reason as a refused query. A command never gets a reply.
 abbrev pub reply_to_piece : Piece → State → List ℕ
 reply_to_piece (Query text) s = reply_to (asked text) s
 reply_to_piece (Command text) s = []
@@ -43,7 +44,7 @@ abbrev pub after_order : Counted → Option Order → Counted
 after_order at None = at
 after_order at (Some order) = record { state = step at.state (update_of at.count order); count = at.count + 1 }
 
--- the state behind a message, and how many updates led to it
+-- the state after a message, and how many updates led to it
 abbrev pub after_piece : KnownNames → Counted → Piece → Counted
 after_piece names at (Query text) = at
 after_piece names at (Command text) = after_order at (order_of names text)
@@ -61,7 +62,7 @@ is_last More = true
 
 -- ---- all messages
 
--- each message is answered at the state behind the messages before it, up to the last one
+-- each message is answered at the state after the messages before it, up to the last one
 abbrev pub replies_from : KnownNames → Counted → List Piece → List ℕ
 replies_from names at [] = []
 replies_from names at (piece ∷ later) =

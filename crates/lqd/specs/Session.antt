@@ -22,13 +22,13 @@ pub record Standing : Type 0 where
 abbrev pub first_standing : State → Standing
 first_standing s = record { names = names_of s.base; at = opening s }
 
--- behind a message
+-- after a message
 abbrev pub behind : Standing → Piece → Standing
 behind old piece = record { names = old.names; at = after_piece old.names old.at piece }
 
 -- ---- reading
 
--- a read took bytes from the input and put them behind those that are held; none at the end alone
+-- a read took bytes from the input and put them after those that are held; none at the end alone
 pub record Fills (ended : Bool) (left_old left_new : Option (List ℕ)) (old new : List ℕ) : Type 0 where
   pub bytes : List ℕ
   pub taken : Consumes left_old left_new bytes
@@ -41,8 +41,10 @@ pub record Fills (ended : Bool) (left_old left_new : Option (List ℕ)) (old new
 
 -- The message stands first in the bytes that are held, however the input goes on.
 pub record ComesFirst (ended : Bool) (held : List ℕ) (piece : Piece) : Type 0 where
-  pub all : (rest : List ℕ) → (IsTrue ended → rest ≡ []) → (later : List Piece) × (messages (held ++ rest) ≡ piece ∷ later)
-  pub known : (rest : List ℕ) → ended ≡ false → (later : List Piece) × (whole_messages (held ++ rest) ≡ piece ∷ later)
+  pub all : (rest : List ℕ) → (IsTrue ended → rest ≡ [])
+      → (later : List Piece) × (messages (held ++ rest) ≡ piece ∷ later)
+  pub known : (rest : List ℕ) → ended ≡ false
+      → (later : List Piece) × (whole_messages (held ++ rest) ≡ piece ∷ later)
 
 -- a message was cut off and served, and the connection goes on
 pub record Serves (ended : Bool) (held left : List ℕ) (old new : Standing) (out_old out : Option (List ℕ)) : Type 0 where

@@ -7,8 +7,8 @@ use std::env;
 use std::io::ErrorKind;
 use std::rt::Env;
 
-/// The object file that the words ask for: `ask OBJECTS`, also with `--` before or behind the file.
-/// A file that begins with `-`, and isn't `-` alone, has to stand behind `--`. None where the words
+/// The object file that the words ask for: `ask OBJECTS`, also with `--` before or after the file.
+/// A file that begins with `-`, and isn't `-` alone, has to stand after `--`. None where the words
 /// are outside this grammar.
 pub fn asked_path(words: &[String]) -> Option<&str>
     ensures { option_copied result ≡ asked_path (map string_bytes words.now) }
@@ -44,7 +44,7 @@ fn one_of<'a>(first: &'a str, second: &'a str) -> Option<&'a str>
     }
 }
 
-/// The words of the command line behind the program's name. Words that aren't UTF-8 are outside the
+/// The words of the command line after the program's name. Words that aren't UTF-8 are outside the
 /// grammar.
 pub fn words<R: Env + AllocGlobal>(rt: &R) -> Result<Vec<String>, Fault<'static>>
     ensures { IfErr result (λ fault. (fault ≡ Fault.Usage) ⊎ (fault ≡ Fault.Memory)) }

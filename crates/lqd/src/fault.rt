@@ -11,7 +11,7 @@ use lq_outside::{Failed, Sink, write_all};
 pub const OBJECTS_LIMIT: u64 = 67_108_864;
 
 /// What is wrong with an object file.
-#[derive(Clone, Copy, Debug, PartialEq, Eq)]
+#[derive(Clone, Copy, PartialEq, Eq)]
 pub enum ObjectsFault {
     /// The number of a line, from 1, and what is wrong there.
     At { line: u64, what: ObjectsWhat },
@@ -20,7 +20,7 @@ pub enum ObjectsFault {
 }
 
 /// Why the program ends without having done its work.
-#[derive(Clone, Copy, Debug)]
+#[derive(Clone, Copy)]
 pub enum Fault<'a> {
     /// The words are outside the grammar.
     Usage,
@@ -34,7 +34,7 @@ pub enum Fault<'a> {
     Read,
     /// The output can't be written.
     Write,
-    /// Want of memory.
+    /// Out of memory.
     Memory,
 }
 
@@ -78,14 +78,15 @@ impl Fault<'_> {
     }
 }
 
-/// Writes three pieces, one behind the other.
+/// Writes three pieces, one after the other.
 fn write_parts<K: Sink>(
     sink: &mut K,
     first: &[u8],
     second: &[u8],
     third: &[u8],
 ) -> Result<(), Failed>
-    ensures ok { OnOk result (Appends (K.held sink.old) (K.held sink.new) (first.now ++ (second.now ++ third.now))) }
+    ensures ok { OnOk result
+        (Appends (K.held sink.old) (K.held sink.new) (first.now ++ (second.now ++ third.now))) }
     ensures cause { HasCause (K.faults sink.old) (K.faults sink.new) result }
 {
     write_all(sink, first)?;
@@ -107,7 +108,8 @@ impl ObjectsFault {
 
 /// Writes what is wrong in a line of the object file.
 fn report_line<K: Sink>(sink: &mut K, number: u64, what: ObjectsWhat) -> Result<(), Failed>
-    ensures ok { OnOk result (Appends (K.held sink.old) (K.held sink.new) (objects_text (ObjectsFault.At number what))) }
+    ensures ok { OnOk result (Appends (K.held sink.old) (K.held sink.new)
+        (objects_text (ObjectsFault.At number what))) }
     ensures cause { HasCause (K.faults sink.old) (K.faults sink.new) result }
 {
     let mut digits = [0; DIGITS];
@@ -118,7 +120,7 @@ fn report_line<K: Sink>(sink: &mut K, number: u64, what: ObjectsWhat) -> Result<
     Ok(())
 }
 
-/// How many digits a number has at most.
+/// How many digits a number below 2 ^ 64 has at most.
 const DIGITS: usize = 20;
 
 /// Writes a number's digits at the end of the buffer, and returns where they begin.

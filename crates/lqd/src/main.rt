@@ -4,9 +4,7 @@
 //! standard input.
 #![tactic(auto)]
 
-mod answer;
 mod command_line;
-mod csv;
 mod fault;
 mod run;
 mod session;

@@ -19,8 +19,8 @@ use lq_records::{Base, Rules};
 use std::alloc::Global;
 
 /// Runs the program: `ask OBJECTS` serves the messages of the input over the objects of a file. Each
-/// query is answered at the state that the commands before it left. The connection ends behind a query
-/// without `KeepAlive: on`, behind a message that is too long, behind the 10,000th message, or with the
+/// query is answered at the state that the commands before it left. The connection ends after a query
+/// without `KeepAlive: on`, after a message that is too long, after the 10,000th message, or with the
 /// input. The answer is the status that the program ends with:
 ///
 /// - 0: all messages up to the end of the connection were served. A command, a refused query and a
@@ -30,7 +30,7 @@ use std::alloc::Global;
 /// - 4: the object file is missing or can't be read.
 /// - 5: the input can't be read.
 /// - 6: the output can't be written.
-/// - 7: want of memory.
+/// - 7: out of memory.
 ///
 /// With a status above 0 its text goes to `faults`; a failed write of it changes no status.
 pub fn run<R, F: Files, S: Source, K: Sink>(
@@ -107,7 +107,8 @@ pub fn run<R, F: Files, S: Source, K: Sink>(
 fn end<K: Sink>(fault: Fault, faults: &mut K) -> u8
     ensures code { result ≡ status_of fault.entry }
     ensures known { IsStatus result }
-    ensures told { ¬ Rose (K.faults faults.old) (K.faults faults.new) → Appends (K.held faults.old) (K.held faults.new) (text_of fault.entry) }
+    ensures told { ¬ Rose (K.faults faults.old) (K.faults faults.new)
+        → Appends (K.held faults.old) (K.held faults.new) (text_of fault.entry) }
     ensures later { K.faults faults.old ≤ K.faults faults.new }
 {
     let _ = fault.report(faults);
@@ -118,7 +119,8 @@ fn end<K: Sink>(fault: Fault, faults: &mut K) -> u8
 fn load_base<'a, F: Files>(alloc: Global, path: &'a str, files: &mut F) -> Result<Base, Fault<'a>>
     ensures ok { IfOk result (λ base. OnBase (F.held_at files.old path.now) (λ said. said ≡ base)) }
     ensures sound { IfOk result IsSound }
-    ensures err { IfErr result (LoadsNoBase path.now (F.held_at files.old path.now) (F.faults files.old) (F.faults files.new)) }
+    ensures err { IfErr result (LoadsNoBase path.now (F.held_at files.old path.now)
+        (F.faults files.old) (F.faults files.new)) }
     ensures later { F.faults files.old ≤ F.faults files.new }
     ensures stays { (p : List ℕ) → F.held_at files.new p ≡ F.held_at files.old p }
 {

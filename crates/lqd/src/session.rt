@@ -12,20 +12,21 @@ ghost use Rattle.lqd.specs.Reading.{ReadsAll};
 ghost use Rattle.lqd.specs.Replies.{keeps, opening, replies, reply_to, update_of};
 ghost use Rattle.lqd.specs.Session.{Breaks, BreaksReply, Does, Fills, Stops, behind, first_standing};
 
-use crate::answer::answer;
 use lq_commands::{CommandErr, ObjectNames, Order, read_command};
+use lq_events::Update;
 use lq_live::Live;
 use lq_log::LogBook;
 use lq_outside::{Failed, Sink, Source, write_all};
-use lq_records::{Base, Items, Memory, Update};
+use lq_query::answer;
+use lq_records::{Base, Items, Memory};
 use lq_request::{Cut, Cutting, ReadErr, read_request};
 use std::alloc::{AllocError, Global};
 use std::marker::Model;
 
-/// How many messages of a connection are served.
+/// How many messages of a connection are served. A further one isn't looked at: the connection ends.
 pub const MOST_MESSAGES: usize = 10_000;
 
-/// How many bytes are read at once.
+/// How many bytes are read at once. More would take more room for each connection.
 const PIECE: usize = 65_536;
 
 /// Why a connection breaks off.
@@ -35,7 +36,7 @@ pub enum ServeErr {
     Read,
     /// A write failed.
     Write,
-    /// Want of memory.
+    /// Out of memory.
     Memory,
 }
 
@@ -49,10 +50,10 @@ impl From<AllocError> for ServeErr {
     }
 }
 
-/// Serves a connection: reads messages from the input, and writes the reply to each query before the next
-/// message is read. Each command takes its step of the state, which opens with each object pending. The
-/// connection ends behind a query that doesn't keep it, behind a message that is too long, behind the
-/// 10,000th message, or at the end of the input. The errors are `Read`, `Write` and want of memory.
+/// Serves a connection: reads messages from the input, and writes the reply to each query before the
+/// next message is read. Each command takes its step of the state, which opens with each object pending. The
+/// connection ends after a query that doesn't keep it, after a message that is too long, after the
+/// 10,000th message, or at the end of the input. The errors are `Read`, `Write` and out of memory.
 pub fn serve<S: Source, K: Sink>(
     alloc: Global,
     base: Base,
@@ -63,7 +64,8 @@ pub fn serve<S: Source, K: Sink>(
     ensures written { OnOk result (IfSome (S.left input.old) (λ all.
         Appends (K.held output.old) (K.held output.new) (replies (opened base) all))) }
     ensures read { OnOk result (ReadsAll (S.left input.old) (S.left input.new)) }
-    ensures stopped { IfErr result (λ error. Stops error (opened base) (S.left input.old) (S.left input.new) (K.held output.old) (K.held output.new)) }
+    ensures stopped { IfErr result (λ error. Stops error (opened base)
+        (S.left input.old) (S.left input.new) (K.held output.old) (K.held output.new)) }
     ensures input_later { S.faults input.old ≤ S.faults input.new }
     ensures output_later { K.faults output.old ≤ K.faults output.new }
     ensures read_cause { result ≡ Err ServeErr.Read → Rose (S.faults input.old) (S.faults input.new) }
@@ -90,7 +92,8 @@ fn serve_all<S: Source, K: Sink>(
     ensures written { OnOk result (IfSome (S.left input.old) (λ all.
         Appends (K.held output.old) (K.held output.new) (replies session.old.at.state all))) }
     ensures read { OnOk result (ReadsAll (S.left input.old) (S.left input.new)) }
-    ensures stopped { IfErr result (λ error. Stops error session.old.at.state (S.left input.old) (S.left input.new) (K.held output.old) (K.held output.new)) }
+    ensures stopped { IfErr result (λ error. Stops error session.old.at.state
+        (S.left input.old) (S.left input.new) (K.held output.old) (K.held output.new)) }
     ensures input_later { S.faults input.old ≤ S.faults input.new }
     ensures output_later { K.faults output.old ≤ K.faults output.new }
     ensures read_cause { result ≡ Err ServeErr.Read → Rose (S.faults input.old) (S.faults input.new) }
@@ -133,7 +136,7 @@ fn new_piece(alloc: Global) -> Result<Vec<u8>, Memory>
     vec![in alloc; 0; PIECE]
 }
 
-/// Reads once behind what is held, and says whether the input has ended.
+/// Reads once after what is held, and says whether the input has ended.
 fn fill<S: Source>(input: &mut S, cut: &mut Cut, piece: &mut [u8]) -> Result<bool, ServeErr>
     requires room { length cut.old ≤ MESSAGE_LIMIT }
     requires some { 0 < length piece.old }
@@ -154,7 +157,7 @@ fn fill<S: Source>(input: &mut S, cut: &mut Cut, piece: &mut [u8]) -> Result<boo
 }
 
 /// What became of a connection.
-#[derive(Clone, Copy, Debug)]
+#[derive(Clone, Copy)]
 enum Next {
     /// A message was served, and the connection goes on.
     On,
@@ -208,8 +211,10 @@ impl Session {
         ended: bool,
         output: &mut K,
     ) -> Result<Next, ServeErr>
-        ensures ok { IfOk result (λ next. Does next ended cut.old cut.new self.old self.new (K.held output.old) (K.held output.new)) }
-        ensures err { IfErr result (λ error. Breaks error ended cut.old self.old (K.held output.old) (K.held output.new)) }
+        ensures ok { IfOk result (λ next. Does next ended cut.old cut.new self.old self.new
+            (K.held output.old) (K.held output.new)) }
+        ensures err { IfErr result (λ error. Breaks error ended cut.old self.old
+            (K.held output.old) (K.held output.new)) }
         ensures later { K.faults output.old ≤ K.faults output.new }
         ensures cause { result ≡ Err ServeErr.Write → Rose (K.faults output.old) (K.faults output.new) }
     {
@@ -232,8 +237,11 @@ impl Session {
     /// Writes the reply to a query, and says whether the connection goes on.
     fn answer<K: Sink>(&self, alloc: Global, text: &[u8], output: &mut K) -> Result<bool, ServeErr>
         ensures keep { IfOk result (λ keep. keep ≡ keeps (asked text.now)) }
-        ensures ok { OnOk result (Appends (K.held output.old) (K.held output.new) (reply_to (asked text.now) self.now.at.state)) }
-        ensures broken { IfErr result (λ error. BreaksReply error (reply_to (asked text.now) self.now.at.state) (K.held output.old) (K.held output.new)) }
+        ensures ok { OnOk result (Appends (K.held output.old) (K.held output.new)
+            (reply_to (asked text.now) self.now.at.state)) }
+        ensures broken { IfErr result (λ error.
+            BreaksReply error (reply_to (asked text.now) self.now.at.state)
+            (K.held output.old) (K.held output.new)) }
         ensures later { K.faults output.old ≤ K.faults output.new }
         ensures cause { result ≡ Err ServeErr.Write → Rose (K.faults output.old) (K.faults output.new) }
     {

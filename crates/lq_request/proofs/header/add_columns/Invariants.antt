@@ -1,13 +1,5 @@
-use Rattle.std.proofs.Common.{◌≡◌, ◌++◌, map, drop, find}
-use Rattle.std.specs.List.{AllByRecursion, filter_map}
-use Rattle.std.specs.Str.{IsUtf8}
-use Rattle.lq_records.specs.Schema.{column_of}
-use Rattle.lq_request.specs.Request.{is_unknown}
+use Rattle.std.proofs.Common.{◌≡◌, ◌++◌, drop}
 use Rattle.lq_request.proofs.header.add_columns.Given as goal
 
-abbrev pub invariant-loop-word : goal.invariant-loop-word
-invariant-loop-word l = record {
-  texts : AllByRecursion IsUtf8 (map (λ word. word.now) (drop l.word-index l.words));
-  unknown : find (is_unknown l.table) (map (λ word. word.now) (drop l.word-index l.words)) ≡ find (is_unknown l.table) (map (λ word. word.now) l.words);
-  known : l.columns ++ filter_map (column_of l.table) (map (λ word. word.now) (drop l.word-index l.words)) ≡ l.fn.columns ++ filter_map (column_of l.table) (map (λ word. word.now) l.words);
-}
+abbrev pub invariant-loop-column : goal.invariant-loop-column
+invariant-loop-column l = l.columns ++ drop l.column-index l.more ≡ l.fn.columns ++ l.more

@@ -1,5 +1,5 @@
 use Rattle.std.proofs.Common.{◌∙◌}
-use Rattle.lq_records.specs.Schema.{columns_of}
+use Rattle.lq_schema.specs.Schema.{columns_of}
 use Rattle.lq_request.proofs.ListLemmas.{front_next}
 use Rattle.lq_request.proofs.request.all_columns.Goals as goal
 

@@ -1,8 +1,8 @@
 use Rattle.std.proofs.Common.{get_or, slice_get}
 use Rattle.std.specs.List.{flat_map}
 use Rattle.std.proofs.lemmas.Option.{slice_get-get_or}
-use Rattle.lq_records.specs.declared.columns.Table.{Table}
-use Rattle.lq_records.specs.declared.columns.Table.TheVariants as table
+use Rattle.lq_schema.specs.declared.columns.Table.{Table}
+use Rattle.lq_schema.specs.declared.columns.Table.TheVariants as table
 use Rattle.lq_tables.specs.Schema.{entries_of}
 use Rattle.lq_tables.proofs.Entries.{found_here, found_later}
 use Rattle.lq_tables.proofs.schema.entry_in.Goals as goal

@@ -1,5 +1,5 @@
 use Rattle.std.proofs.Common.{◌≡◌, ◌∙◌, ◌+◌, ap, arith, length}
-use Rattle.lq_live.specs.Parts.{state_of}
+use Rattle.lq_live.specs.Kept.{state_of}
 use Rattle.lq_live.specs.Step.{step}
 use Rattle.lq_live.proofs.Apply.{step_for, timely_for}
 use Rattle.lq_live.proofs.Kept.{step_kept, step_longer}
@@ -7,22 +7,22 @@ use Rattle.lq_live.proofs.live.Live.apply.Goals as goal
 
 pub play-requires-clause-timely : goal.play-requires-clause-timely
 play-requires-clause-timely c =
-    timely_for (state_of c.self.inside.parts) (state_of c.reserve.new.parts) c.args.u.now c.in_ok-edits.edits.items c.self.invariant.0 c.in_ok-edits.ensures c.reserve.ensures.kept
+    timely_for (state_of c.self.inside.state) (state_of c.reserve.new.live) c.args.u.now c.in_ok-edits.edits.items c.self.invariant.state c.in_ok-edits.ensures c.reserve.ensures.kept
 
 pub overflow_add-self : goal.overflow_add-self
-overflow_add-self c = omega (arith, c.self.invariant.1, c.in_ok-reserve.ensures.lines, ap (λ s. length s.log) c.reserve.ensures.kept)
+overflow_add-self c = omega (arith, c.self.invariant.count, c.in_ok-reserve.ensures.lines, ap (λ s. length s.log) c.reserve.ensures.kept)
 
-next : (c : goal.After-self-1) → state_of c.look_ahead.new.parts ≡ step (state_of c.self.inside.parts) c.args.u.now
+next : (c : goal.After-self-1) → state_of c.look_ahead.new.live ≡ step (state_of c.self.inside.state) c.args.u.now
 next c = c.look_ahead.ensures.state
-    ∙ step_for (state_of c.self.inside.parts) (state_of c.reserve.new.parts) (state_of c.play.new.parts) c.args.u.now c.in_ok-edits.edits.items
+    ∙ step_for (state_of c.self.inside.state) (state_of c.reserve.new.live) (state_of c.play.new.live) c.args.u.now c.in_ok-edits.edits.items
     c.in_ok-edits.ensures c.reserve.ensures.kept c.play.ensures.state
 
 pub invariant_of-self-2 : goal.invariant_of-self-2
-invariant_of-self-2 c = (
-  rw (next c) (step_kept (state_of c.self.inside.parts) c.args.u.now c.self.invariant.0),
-  omega (arith, c.self.invariant.1, ap (λ s. length s.log) (next c), step_longer (state_of c.self.inside.parts) c.args.u.now c.self.invariant.0),
-  c.look_ahead.ensures.moment (c.play.ensures.moment (c.reserve.ensures.moment c.self.invariant.2)),
-)
+invariant_of-self-2 c = record {
+  state = rw (next c) (step_kept (state_of c.self.inside.state) c.args.u.now c.self.invariant.state);
+  count = omega (arith, c.self.invariant.count, ap (λ s. length s.log) (next c), step_longer (state_of c.self.inside.state) c.args.u.now c.self.invariant.state);
+  index = c.look_ahead.ensures.index (c.play.ensures.index (c.reserve.ensures.index c.self.invariant.index));
+}
 
 pub returns-clause-ok : goal.returns-clause-ok
 returns-clause-ok c =

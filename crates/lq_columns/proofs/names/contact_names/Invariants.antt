@@ -1,6 +1,0 @@
-use Rattle.std.proofs.Common.{◌≡◌, ◌++◌, drop}
-use Rattle.lq_columns.specs.Names.{contact_names_of}
-use Rattle.lq_columns.proofs.names.contact_names.Given as goal
-
-abbrev pub invariant-loop-id : goal.invariant-loop-id
-invariant-loop-id l = l.names ++ contact_names_of l.base (drop l.id-index l.ids) ≡ contact_names_of l.base l.ids

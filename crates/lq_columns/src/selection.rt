@@ -1,0 +1,134 @@
+ghost use Rattle.std.specs.Prelude.{◌≡◌, length, filter, map, max, fold};
+ghost use Rattle.lq_columns.specs.Counts.{badness_at, group_lists, group_members, is_group_service, is_in_scope, is_service_of, places_in, counts_at, service_badness, service_members};
+ghost use Rattle.lq_columns.specs.Marks.{AreMarks, AreMarksOf, has_place};
+
+use crate::badness::service_badness_at;
+use crate::counted::{Counted, counts_at};
+use crate::marks::{has_marked, marks_of};
+use crate::scope::Scope;
+use lq_events::Status;
+use lq_records::{Base, HostGroupId, HostId, ServiceGroupId, ServiceId};
+use std::alloc::Global;
+
+/// The services that a scope takes in. The members of a group are marked, so that none is looked
+/// for in the group's list.
+#[derive(Drop)]
+pub(crate) struct Selection<'a> {
+    base: &'a Base,
+    scope: Scope,
+    /// Of the hosts for a group of hosts, of the services for a group of services, else none.
+    marks: Vec<bool>,
+}
+
+impl<'a> Selection<'a> {
+    pub(crate) fn new(alloc: Global, base: &'a Base, scope: Scope) -> Self
+        ensures base { result.base.now ≡ base.now }
+        ensures scope { result.scope ≡ scope }
+        ensures marks { AreMarksOf result.base.now result.scope result.marks.items }
+    {
+        let marks = marks_in(alloc, base, scope);
+        Selection { base, scope, marks }
+    }
+
+    /// Whether the scope takes in the service at a place.
+    fn has(&self, place: usize) -> bool
+        requires { AreMarksOf self.now.base.now self.now.scope self.now.marks.items }
+        ensures { result ≡ is_in_scope self.now.base.now self.now.scope place }
+    {
+        match self.scope {
+            Scope::Host(id) => is_service_of(self.base, id, place),
+            Scope::HostGroup(group) => is_marked_host(self.base, group, &self.marks, place),
+            Scope::ServiceGroup(group) => is_marked_service(self.base, group, &self.marks, place),
+        }
+    }
+
+    /// How many of the services count.
+    pub(crate) fn count(&self, statuses: &[Status], which: Counted) -> usize
+        requires { AreMarksOf self.now.base.now self.now.scope self.now.marks.items }
+        ensures { result
+            ≡ length (filter (counts_at statuses.now which)
+            (places_in self.now.base.now self.now.scope)) }
+    {
+        (0..self.base.services.len())
+            .filter(|place| self.has(*place))
+            .filter(|place| counts_at(statuses, which, *place))
+            .count()
+    }
+
+    /// How bad the worst of their states is.
+    pub(crate) fn worst(&self, statuses: &[Status]) -> u8
+        requires { AreMarksOf self.now.base.now self.now.scope self.now.marks.items }
+        ensures { result
+            ≡ fold max 0 (map (badness_at service_badness statuses.now)
+            (places_in self.now.base.now self.now.scope)) }
+    {
+        (0..self.base.services.len())
+            .filter(|place| self.has(*place))
+            .map(|place| service_badness_at(statuses, place))
+            .fold(0, |worst, badness| worst.max(badness))
+    }
+}
+
+fn marks_in(alloc: Global, base: &Base, scope: Scope) -> Vec<bool>
+    ensures { AreMarksOf base.now scope result.items }
+{
+    match scope {
+        Scope::Host(_) => Vec::new(alloc),
+        Scope::HostGroup(group) => {
+            marks_of(alloc, members_of_hosts(base, group), base.hosts.len())
+        }
+        Scope::ServiceGroup(group) => {
+            marks_of(alloc, members_of_services(base, group), base.services.len())
+        }
+    }
+}
+
+fn is_service_of(base: &Base, id: HostId, place: usize) -> bool
+    ensures { result ≡ is_service_of base.now id place }
+{
+    match base.services.as_slice().get(place) {
+        Some(service) => service.host.0 == id.0,
+        None => false,
+    }
+}
+
+fn is_marked_host(base: &Base, group: HostGroupId, marks: &[bool], place: usize) -> bool
+    requires { AreMarks (has_place (λ id. id.0) (group_members base.now group)) marks.now }
+    ensures { result ≡ is_group_service base.now group place }
+{
+    match base.services.as_slice().get(place) {
+        Some(service) => has_marked(
+            members_of_hosts(base, group),
+            marks,
+            service.host.0 as usize,
+        ),
+        None => false,
+    }
+}
+
+fn is_marked_service(base: &Base, group: ServiceGroupId, marks: &[bool], place: usize) -> bool
+    requires { AreMarks (has_place (λ id. id.0) (service_members base.now group)) marks.now }
+    ensures { result ≡ group_lists base.now group place }
+{
+    has_marked(members_of_services(base, group), marks, place)
+}
+
+/// The hosts that a group lists.
+pub(crate) fn members_of_hosts(base: &Base, group: HostGroupId) -> &[HostId]
+    ensures { result.now ≡ group_members base.now group }
+{
+    match base.host_groups.as_slice().get(group.0 as usize) {
+        Some(group) => group.members.as_slice(),
+        None => &[],
+    }
+}
+
+/// The services that a group lists.
+fn members_of_services(base: &Base, group: ServiceGroupId) -> &[ServiceId]
+    ensures { result.now ≡ service_members base.now group }
+{
+    match base.service_groups.as_slice().get(group.0 as usize) {
+        Some(group) => group.members.as_slice(),
+        None => &[],
+    }
+}

@@ -1,8 +1,0 @@
-use Rattle.std.proofs.Common.{◌∙◌, ◌++◌, append_assoc, w64}
-use Rattle.std.proofs.Math.Facts.{to_z-of_z}
-use Rattle.lq_live.proofs.checked.add_known.Goals as goal
-
-pub returns : goal.returns
-returns c =
-    rw (c.in_ok-push.ensures.items, c.in_ok-push_end.ensures, c.in_ok-push_alert.ensures, c.in_ok-status.ensures, to_z-of_z {w = w64} {z = c.args.new} c.ranges.new)
-    (append_assoc (c.args.edits.now.items ++ _) _ _ ∙ append_assoc c.args.edits.now.items _ _)

@@ -1,0 +1,106 @@
+-- The state that the code holds, and what it keeps.
+use Rattle.std.specs.Prelude.{◌≡◌, ℕ, ◌+◌, ◌-◌, min, if◌then◌else◌, ◌<◌, ◌≤◌, ◌^◌, false, List, [], ◌∷◌, length, vec_len, vec_capacity}
+use Rattle.lq_events.specs.declared.status.Downtime.{Downtime}
+use Rattle.lq_log.specs.declared.book.TheConstants.{TIME_LIMIT}
+use Rattle.lq_log.specs.Book.{last_time}
+use Rattle.lq_live.specs.State.{State}
+use Rattle.lq_live.specs.Downtimes.{stages}
+use Rattle.lq_live.specs.Ids.{HasRisingIds}
+use Rattle.lq_live.specs.declared.live_state.LiveState.{LiveState}
+use Rattle.lq_live.specs.declared.stage.Stage.{Stage}
+use Rattle.lq_live.specs.declared.edit.Edit.{Edit}
+use Rattle.lq_live.specs.declared.edit.Edit.TheVariants as edit
+
+abbrev pub state_of : LiveState → State
+state_of live = record {
+  base = live.base;
+  host_status = live.host_status.items;
+  service_status = live.service_status.items;
+  downtimes = live.downtimes.items;
+  comments = live.comments.items;
+  log = live.log.entries;
+  now = live.present;
+  next_downtime = live.next_downtime;
+  next_comment = live.next_comment;
+  notifications = live.notifications;
+}
+
+-- a state whose second has moved
+abbrev pub at_second : ℕ → State → State
+at_second second s = record s { now = second }
+
+abbrev pub state_at : ℕ → LiveState → State
+state_at second live = at_second second (state_of live)
+
+-- ---- what every state keeps
+
+-- what is still to come of a downtime isn't before a second
+pub record IsFrom (second : ℕ) (stage : Stage) : Type 0 where
+  pub end : second ≤ stage.end
+  pub start : stage.active ≡ false → second ≤ stage.start
+
+abbrev pub AllFrom : ℕ → List Stage → Type 0
+AllFrom second [] = Unit {0}
+AllFrom second (stage ∷ downtimes) = IsFrom second stage × AllFrom second downtimes
+
+-- the first second at which a downtime begins or ends, as far as that is still to come
+abbrev pub next_of : Downtime → ℕ
+next_of downtime = if downtime.active then downtime.end else min downtime.start downtime.end
+
+-- the first of several downtimes
+abbrev pub first_of : List Downtime → ℕ
+first_of [] = 2 ^ 64 - 1
+first_of (downtime ∷ downtimes) = min (first_of downtimes) (next_of downtime)
+
+-- each downtime begins before it ends
+abbrev pub AllOrdered : List Stage → Type 0
+AllOrdered [] = Unit {0}
+AllOrdered (stage ∷ downtimes) = (stage.start < stage.end) × AllOrdered downtimes
+
+-- Each object has a status. The last line isn't past the present second, all that is to come of the
+-- downtimes is, the second can be written, no id passes the number of lines by more than one, and
+-- none is given twice.
+pub record IsKept (s : State) : Type 0 where
+  pub hosts : length s.host_status ≡ length s.base.hosts
+  pub services : length s.service_status ≡ length s.base.services
+  pub lines : last_time s.log ≤ s.now
+  pub ahead : AllFrom (s.now + 1) (stages s.downtimes)
+  pub order : AllOrdered (stages s.downtimes)
+  pub second : s.now < TIME_LIMIT
+  pub downtime_ids : s.next_downtime ≤ length s.log + 1
+  pub comment_ids : s.next_comment ≤ length s.log + 1
+  pub ids : HasRisingIds s
+
+-- ---- what the code keeps beside the state
+
+-- what is found sooner for it: a second before which no downtime begins or ends
+pub record IsIndexed (live : LiveState) : Type 0 where
+  pub moment : AllFrom live.next_moment (stages live.downtimes.items)
+
+-- what holds after so many updates: no update is without its line
+pub record KeepsAll (live : LiveState) (updates : ℕ) : Type 0 where
+  pub state : IsKept (state_of live)
+  pub count : updates ≤ length live.log.entries
+  pub index : IsIndexed live
+
+-- ---- edits
+
+-- the lines of edits are in order of time after a last one, and below the limit
+abbrev pub Timely : ℕ → List Edit → Type 0
+Timely last [] = Unit {0}
+Timely last (edit.Line entry ∷ edits) =
+    (last ≤ entry.time) × (entry.time < TIME_LIMIT) × Timely entry.time edits
+Timely last (_ ∷ edits) = Timely last edits
+
+-- so many edits find their room
+pub record HasRoom (live : LiveState) (n : ℕ) : Type 0 where
+  pub lines : n ≤ live.log.room
+  pub comments : vec_len live.comments + n ≤ vec_capacity live.comments
+  pub downtimes : vec_len live.downtimes + n ≤ vec_capacity live.downtimes
+  pub downtime_ids : live.next_downtime + n < 2 ^ 64
+  pub comment_ids : live.next_comment + n < 2 ^ 64
+
+-- no id passes the number of lines by more than one
+pub record HasIds (live : LiveState) : Type 0 where
+  pub downtime_ids : live.next_downtime ≤ length live.log.entries + 1
+  pub comment_ids : live.next_comment ≤ length live.log.entries + 1

@@ -1,0 +1,58 @@
+ghost use Rattle.std.specs.Prelude.{◌≡◌, IfOk};
+ghost use Rattle.std.specs.Option.{option_copied, option_map};
+ghost use Rattle.lq_live.specs.Effects.{holds};
+ghost use Rattle.lq_live.specs.Kept.{state_of};
+ghost use Rattle.lq_live.specs.State.{line_names, names_of, status_of};
+ghost use Rattle.lq_live.specs.StepEdits.{stages_in};
+
+use crate::due::stages_after_due;
+use crate::live_state::LiveState;
+use crate::names::{ObjectName, holds, names_of};
+use crate::stage::Stage;
+use lq_events::Status;
+use lq_records::{Memory, Object};
+use std::alloc::Global;
+
+/// What the edits of a step are made from: the state before it, the second to which it moves, and
+/// the allocator of all that it adds.
+#[derive(Clone, Copy)]
+pub(crate) struct StepContext<'a> {
+    pub(crate) alloc: Global,
+    pub(crate) live: &'a LiveState,
+    pub(crate) second: u64,
+}
+
+impl<'a> StepContext<'a> {
+    /// Whether the base holds an object.
+    pub(crate) fn holds(self, object: Object) -> bool
+        ensures { result ≡ holds self.entry.live.now.base object }
+    {
+        holds(&self.live.base, object)
+    }
+
+    /// How a line names an object. None where the base doesn't hold it.
+    pub(crate) fn name_of(self, object: Object) -> Option<ObjectName<'a>>
+        ensures { option_map (λ name. line_names name.host.now name.service.now) result
+            ≡ names_of self.entry.live.now.base object }
+    {
+        names_of(&self.live.base, object)
+    }
+
+    /// The status of an object. None where the base doesn't hold it.
+    pub(crate) fn status_of(self, object: Object) -> Option<&'a Status>
+        ensures { option_copied result ≡ status_of (state_of self.entry.live.now) object }
+    {
+        match object {
+            Object::Host(id) => self.live.host_status.get(id.0 as usize),
+            Object::Service(id) => self.live.service_status.get(id.0 as usize),
+        }
+    }
+
+    /// The downtimes after all that are due at the second have begun or ended.
+    pub(crate) fn stages(self) -> Result<Vec<Stage>, Memory>
+        ensures { IfOk result (λ found. found.items
+            ≡ stages_in self.entry.second self.entry.live.now) }
+    {
+        stages_after_due(self.alloc, self.second, &self.live.downtimes)
+    }
+}

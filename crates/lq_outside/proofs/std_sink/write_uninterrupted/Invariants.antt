@@ -1,0 +1,6 @@
+-- A write that a signal interrupts adds no byte.
+use Rattle.std.specs.Io.KnownBytes.{Keeps}
+use Rattle.lq_outside.proofs.std_sink.write_uninterrupted.Given as goal
+
+abbrev pub invariant-loop : goal.invariant-loop
+invariant-loop g l = Keeps (g.W.Write.contents l.initial.writer) (g.W.Write.contents l.writer)

@@ -1,0 +1,9 @@
+-- A read that a signal interrupts takes no byte.
+use Rattle.std.proofs.Common.{◌≡◌, length}
+use Rattle.std.specs.Io.KnownBytes.{Keeps}
+use Rattle.lq_outside.proofs.std_source.read_uninterrupted.Given as goal
+
+abbrev pub invariant-loop : goal.invariant-loop
+invariant-loop g l =
+    (length l.buf ≡ length l.initial.buf)
+    × Keeps (g.R.Read.remaining l.initial.reader) (g.R.Read.remaining l.reader)

@@ -1,0 +1,14 @@
+use Rattle.std.proofs.Common.{◌≡◌, ◌≤◌, ◌++◌, length, drop, map}
+use Rattle.lq_query.specs.Answer.{line_of}
+use Rattle.lq_query.specs.Csv.{csv}
+use Rattle.lq_query.specs.declared.reply.TheConstants.{REPLY_LIMIT}
+use Rattle.lq_query.proofs.page.Page.push_rows.Given as goal
+
+abbrev pub invariant-loop-row : goal.invariant-loop-row
+invariant-loop-row l = record {
+  lines :
+      l.body.items
+      ++ csv (map (line_of l.self.live.now.state l.self.request.now.columns) (drop l.row-index l.rows))
+      ≡ l.fn.body.items ++ csv (map (line_of l.self.live.now.state l.self.request.now.columns) l.rows);
+  small : length l.body.items ≤ REPLY_LIMIT;
+}

@@ -1,0 +1,42 @@
+-- The reply to a query at a state.
+use Rattle.std.specs.Prelude.{ℕ, nat_lt, Bool, true, false, List, [], ◌∷◌, length, map, if◌then◌else◌}
+use Rattle.lq_schema.specs.declared.columns.Col.{Col}
+use Rattle.lq_schema.specs.Names.{full_name}
+use Rattle.lq_live.specs.State.{State}
+use Rattle.lq_tables.specs.Rows.{rows_of}
+use Rattle.lq_tables.specs.Cells.{cell_of}
+use Rattle.lq_tables.specs.declared.row.Row.{Row}
+use Rattle.lq_request.specs.declared.request.Request.{Request}
+use Rattle.lq_query.specs.Csv.{cell_text, csv}
+use Rattle.lq_query.specs.declared.reply.Reply.{Reply}
+use Rattle.lq_query.specs.declared.reply.TheConstants.{REPLY_LIMIT}
+
+-- ---- lines
+
+abbrev pub line_of : State → List Col → Row → List (List ℕ)
+line_of s columns row = map (λ column. cell_text (cell_of s row column)) columns
+
+-- the names of the columns
+abbrev pub names_of : List Col → List (List ℕ)
+names_of columns = map full_name columns
+
+abbrev pub with_names : Bool → List Col → List (List (List ℕ)) → List (List (List ℕ))
+with_names true columns rows = names_of columns ∷ rows
+with_names false columns rows = rows
+
+-- the columns' names where they are asked for, then a line for each row of the table
+abbrev pub lines_of : Request → State → List (List (List ℕ))
+lines_of request s =
+    with_names request.head request.columns
+    (map (line_of s request.columns) (rows_of s request.table))
+
+-- ---- text
+
+-- a body that is too large is replaced by the refusal 413; any other has the code 200
+abbrev pub limited : List ℕ → Reply
+limited body =
+    if nat_lt REPLY_LIMIT (length body) then record { code = 413; bytes = [] }
+    else record { code = 200; bytes = body }
+
+abbrev pub answer_of : Request → State → Reply
+answer_of request s = limited (csv (lines_of request s))

@@ -1,0 +1,9 @@
+//! The answer to a whole query: the rows of its table at a state, line by line, in the form that it
+//! asks for.
+#![tactic(auto)]
+
+mod csv;
+mod page;
+mod reply;
+
+pub use reply::{Reply, answer};

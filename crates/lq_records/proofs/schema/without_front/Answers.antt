@@ -1,5 +1,0 @@
-use Rattle.lq_records.proofs.SchemaLemmas.{without_is}
-use Rattle.lq_records.proofs.schema.without_front.Goals as goal
-
-pub returns : goal.returns
-returns c = without_is c.strip_prefix.result c.args.front.now c.args.name.now c.strip_prefix.ensures.cases

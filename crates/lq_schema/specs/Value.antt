@@ -1,0 +1,31 @@
+-- The values of cells, without where they lie in memory.
+use Rattle.std.specs.Prelude.{ℕ, ℤ, pos, List, []}
+use Rattle.lq_schema.specs.declared.value.Val.{Val}
+use Rattle.lq_schema.specs.declared.value.Val.TheVariants as val
+use Rattle.lq_schema.specs.declared.columns.ColKind.{ColKind}
+use Rattle.lq_schema.specs.declared.columns.ColKind.TheVariants as kind
+
+-- a whole number, the bytes of a text, or a list of texts, of numbers or of services
+pub data Value : Type 0 where
+  Number : ℤ → Value
+  Words : List ℕ → Value
+  Texts : List (List ℕ) → Value
+  Numbers : List ℕ → Value
+  Pairs : List (List ℕ × List ℕ) → Value
+
+-- what a value says
+abbrev pub shown : Val → Value
+shown (val.Int number) = Number number
+shown (val.Str text) = Words text.now
+shown (val.List texts) = Texts texts
+shown (val.Nums numbers) = Numbers numbers
+shown (val.Pairs pairs) = Pairs pairs
+shown (val.Own text) = Words text
+
+-- the value of a cell without an object, by its column's kind
+abbrev pub empty_value : ColKind → Value
+empty_value kind.Int = Number (pos 0)
+empty_value kind.Str = Words []
+empty_value kind.List = Texts []
+empty_value kind.Nums = Numbers []
+empty_value kind.Pairs = Pairs []

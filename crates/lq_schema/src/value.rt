@@ -1,0 +1,18 @@
+use lq_records::{Items, Text};
+
+/// The value of a cell. Single texts are borrowed, lists are copies.
+#[derive(Drop)]
+pub enum Val<'a> {
+    /// A whole number.
+    Int(i128),
+    /// A text that the data holds.
+    Str(&'a str),
+    /// Texts, in order.
+    List(Items<Text>),
+    /// Numbers, in order.
+    Nums(Items<u64>),
+    /// Services, in order, each as its host's name and its description.
+    Pairs(Items<(Text, Text)>),
+    /// A text of its own.
+    Own(Text),
+}

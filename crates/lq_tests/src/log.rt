@@ -1,0 +1,412 @@
+//! What log lines say, which lines the program writes, and the book that keeps them.
+
+ghost use Rattle.std.specs.Prelude.{◌≡◌, ◌<◌, IfOk};
+ghost use Rattle.lq_log.specs.declared.book.TheConstants.{TIME_LIMIT};
+
+use lq_events::{Kind, LogEntry};
+use lq_log::{Form, LogBook, make_line, read_line};
+use lq_records::Text;
+use std::alloc::{AllocError, Global};
+use std::process::Abort;
+use std::test::Fail;
+
+fn kind_name(kind: &Kind) -> &'static str {
+    match kind {
+        Kind::HostAlert => "HostAlert",
+        Kind::ServiceAlert => "ServiceAlert",
+        Kind::CurrentHostState => "CurrentHostState",
+        Kind::InitialHostState => "InitialHostState",
+        Kind::CurrentServiceState => "CurrentServiceState",
+        Kind::InitialServiceState => "InitialServiceState",
+        Kind::HostDowntimeAlert => "HostDowntimeAlert",
+        Kind::ServiceDowntimeAlert => "ServiceDowntimeAlert",
+        Kind::HostFlappingAlert => "HostFlappingAlert",
+        Kind::ServiceFlappingAlert => "ServiceFlappingAlert",
+        Kind::HostNotification => "HostNotification",
+        Kind::ServiceNotification => "ServiceNotification",
+        Kind::ExternalCommand => "ExternalCommand",
+        Kind::PassiveHostCheck => "PassiveHostCheck",
+        Kind::PassiveServiceCheck => "PassiveServiceCheck",
+        Kind::TimeperiodTransition { .. } => "TimeperiodTransition",
+        Kind::Other => "Other",
+    }
+}
+
+/// The class, kind, state and attempt of an entry, then its other fields with a bar before each: host,
+/// service, word, contact, command, output, comment. A transition's own fields follow.
+fn shown(alloc: Global, entry: &LogEntry) -> Result<String, AllocError> {
+    let kind = kind_name(&entry.kind);
+    let mut text = format!(in alloc; "{} {kind} {} {}", entry.class, entry.state, entry.attempt)?;
+    for field in [
+        &entry.host,
+        &entry.service,
+        &entry.word,
+        &entry.contact,
+        &entry.command,
+        &entry.output,
+        &entry.comment,
+    ] {
+        text.push_str("|")?;
+        text.push_str(field.as_str())?;
+    }
+    push_transition(alloc, &mut text, &entry.kind)?;
+    Ok(text)
+}
+
+fn push_transition(alloc: Global, text: &mut String, kind: &Kind) -> Result<(), AllocError> {
+    if let Kind::TimeperiodTransition { name, from, to } = kind {
+        let fields = format!(in alloc; " {} {from} {to}", name.as_str())?;
+        text.push_str(fields.as_str())?;
+    }
+    Ok(())
+}
+
+fn shown_line(alloc: Global, line: &str) -> Result<String, AllocError> {
+    match read_line(alloc, line, 0)? {
+        Some(entry) => shown(alloc, &entry),
+        None => String::from_str(alloc, "none"),
+    }
+}
+
+/// Reads lines, and compares what each says.
+fn assert_lines<R: Abort + AllocGlobal>(rt: &R, cases: &[(&str, &str)]) -> Result<(), Fail> {
+    for (line, expected) in cases {
+        let said = shown_line(rt.alloc(), *line)?;
+        assert_eq!(rt; said.as_str(), *expected, "at {line:?}");
+    }
+    Ok(())
+}
+
+const FORMS: &[(&str, &str)] = &[
+    (
+        "[5] HOST ALERT: web1;DOWN;HARD;3;no answer; none",
+        "1 HostAlert 1 3|web1||HARD|||no answer; none|",
+    ),
+    (
+        "[5] SERVICE ALERT: web1;disk;CRITICAL;SOFT;1;full|x=1",
+        "1 ServiceAlert 2 1|web1|disk|SOFT|||full|x=1|",
+    ),
+    (
+        "[5] CURRENT HOST STATE: web1;UP;HARD;1;",
+        "6 CurrentHostState 0 1|web1||HARD||||",
+    ),
+    (
+        "[5] INITIAL HOST STATE: web1;UNREACHABLE;SOFT;000000010;away",
+        "6 InitialHostState 2 10|web1||SOFT|||away|",
+    ),
+    (
+        "[5] CURRENT SERVICE STATE: web1;disk;UNKNOWN;HARD;1;?",
+        "6 CurrentServiceState 3 1|web1|disk|HARD|||?|",
+    ),
+    (
+        "[5] INITIAL SERVICE STATE: web1;disk;WARNING;HARD;999999999;near",
+        "6 InitialServiceState 1 999999999|web1|disk|HARD|||near|",
+    ),
+    (
+        "[5] HOST DOWNTIME ALERT: web1;STARTED; work",
+        "1 HostDowntimeAlert 0 0|web1||STARTED|||| work",
+    ),
+    (
+        "[5] SERVICE DOWNTIME ALERT: web1;disk;CANCELLED;",
+        "1 ServiceDowntimeAlert 0 0|web1|disk|CANCELLED||||",
+    ),
+    (
+        "[5] HOST FLAPPING ALERT: web1;DISABLED;off",
+        "1 HostFlappingAlert 0 0|web1||DISABLED||||off",
+    ),
+    (
+        "[5] SERVICE FLAPPING ALERT: web1;disk;STOPPED;calm",
+        "1 ServiceFlappingAlert 0 0|web1|disk|STOPPED||||calm",
+    ),
+    (
+        "[5] HOST NOTIFICATION: anna;web1;DOWN;mail;gone",
+        "3 HostNotification 1 0|web1||DOWN|anna|mail|gone|",
+    ),
+    (
+        "[5] HOST NOTIFICATION: anna;web1;CRITICAL;mail;gone",
+        "3 HostNotification 0 0|web1||CRITICAL|anna|mail|gone|",
+    ),
+    (
+        "[5] SERVICE NOTIFICATION: anna;web1;disk;CRITICAL;mail;full",
+        "3 ServiceNotification 2 0|web1|disk|CRITICAL|anna|mail|full|",
+    ),
+    (
+        "[5] SERVICE NOTIFICATION: anna;web1;disk;FLAPPINGSTART (OK);mail;x",
+        "3 ServiceNotification 0 0|web1|disk|FLAPPINGSTART (OK)|anna|mail|x|",
+    ),
+    (
+        "[5] EXTERNAL COMMAND: ENABLE_NOTIFICATIONS;1",
+        "5 ExternalCommand 0 0|||||||",
+    ),
+    (
+        "[5] PASSIVE HOST CHECK: web1;1;down",
+        "4 PassiveHostCheck 1 0|web1|||||down|",
+    ),
+    (
+        "[5] PASSIVE SERVICE CHECK: web1;disk;3;odd",
+        "4 PassiveServiceCheck 3 0|web1|disk||||odd|",
+    ),
+    (
+        "[5] TIMEPERIOD TRANSITION: work;-1;1",
+        "6 TimeperiodTransition 0 0||||||| work -1 1",
+    ),
+];
+
+/// Lines that have the name of a form and not its fields.
+const FAULTY: &[&str] = &[
+    "[5] HOST ALERT: web1;CRITICAL;HARD;1;x",
+    "[5] SERVICE ALERT: web1;disk;DOWN;HARD;1;x",
+    "[5] SERVICE ALERT: web1;disk;OK;hard;1;x",
+    "[5] SERVICE ALERT: web1;disk;OK;HARD;;x",
+    "[5] SERVICE ALERT: web1;disk;OK;HARD;1234567890;x",
+    "[5] SERVICE ALERT: web1;disk;OK;HARD;+1;x",
+    "[5] SERVICE ALERT: web1;disk;OK;HARD;1",
+    "[5] HOST ALERT: web1",
+    "[5] HOST DOWNTIME ALERT: web1;DISABLED;x",
+    "[5] SERVICE FLAPPING ALERT: web1;disk;CANCELLED;x",
+    "[5] HOST NOTIFICATION: anna;web1;DOWN;mail",
+    "[5] PASSIVE SERVICE CHECK: web1;disk;4;x",
+    "[5] PASSIVE HOST CHECK: web1;01;x",
+    "[5] TIMEPERIOD TRANSITION: work;0;1;2",
+    "[5] TIMEPERIOD TRANSITION: work;9223372036854775808;1",
+];
+
+const OTHERS: &[(&str, &str)] = &[
+    ("[5] LOG VERSION: 2.0", "2 Other 0 0|||||||"),
+    ("[5] LOG ROTATION: DAILY", "2 Other 0 0|||||||"),
+    ("[5] Nagios 4.4.6 starting... (PID=1)", "2 Other 0 0|||||||"),
+    ("[5] Caught SIGTERM, shutting down...", "2 Other 0 0|||||||"),
+    ("[5] Successfully shutdown... (PID=1)", "2 Other 0 0|||||||"),
+    ("[5] Bailing out due to errors", "2 Other 0 0|||||||"),
+    (
+        "[5] Finished daemonizing... (New PID=1)",
+        "2 Other 0 0|||||||",
+    ),
+    (
+        "[5] Auto-save of retention data completed",
+        "2 Other 0 0|||||||",
+    ),
+    ("[5] Nagios", "0 Other 0 0|||||||"),
+    ("[5] Warning: x", "0 Other 0 0|||||||"),
+    ("[5] HOST ALERT:web1;UP;HARD;1;x", "0 Other 0 0|||||||"),
+    ("[5] host alert: web1;UP;HARD;1;x", "0 Other 0 0|||||||"),
+    ("[5]", "0 Other 0 0|||||||"),
+    ("[5] \t ", "0 Other 0 0|||||||"),
+];
+
+const SECONDS: &[(&str, &str)] = &[
+    ("", "none"),
+    (" [5] a", "none"),
+    ("[] a", "none"),
+    ("[5 a", "none"),
+    ("[1234567890123] a", "none"),
+    ("[-5] a", "none"),
+    ("[5]EXTERNAL COMMAND: a", "5 ExternalCommand 0 0|||||||"),
+    (
+        "[123456789012] \t EXTERNAL COMMAND:\ta",
+        "5 ExternalCommand 0 0|||||||",
+    ),
+    ("[5] a: b: c", "0 Other 0 0|||||||"),
+];
+
+#[test]
+fn lines_say_their_fields(rt: HostRuntime) -> Result<(), Fail> {
+    assert_lines(&rt, FORMS)?;
+    for line in FAULTY {
+        assert_lines(&rt, &[(*line, "0 Other 0 0|||||||")])?;
+    }
+    assert_lines(&rt, OTHERS)?;
+    assert_lines(&rt, SECONDS)
+}
+
+/// A line, the second of the one before it, and its own.
+const MOMENTS: &[(&str, u64, u64)] = &[
+    ("[100] é", 0, 100),
+    ("[90] é", 100, 100),
+    ("[100] é", 100, 100),
+    ("[999999999999] é", 5, 999_999_999_999),
+    ("[0] é", 0, 0),
+];
+
+#[test]
+fn a_time_is_no_earlier_than_the_one_before(rt: HostRuntime) -> Result<(), Fail> {
+    for (line, before, time) in MOMENTS {
+        let entry = read_line(rt.alloc(), *line, *before)?.ok_or("no entry")?;
+        assert_eq!(rt; entry.time, *time, "at {line:?}");
+        assert_eq!(rt; entry.message.as_str(), *line);
+    }
+    Ok(())
+}
+
+// ---- the lines that are written
+
+/// Writes the line of a form at the second 1,700,000,000, and compares it and what it says.
+fn assert_written<R: Abort + AllocGlobal>(
+    rt: &R,
+    form: &Form,
+    (text, said): (&str, &str),
+) -> Result<(), Fail> {
+    let entry = make_line(rt.alloc(), 1_700_000_000, form)?;
+    let line = format!(in rt.alloc(); "[1700000000] {text}")?;
+    assert_eq!(rt; entry.message.as_str(), line.as_str());
+    assert_eq!(rt; entry.time, 1_700_000_000);
+    let shown = shown(rt.alloc(), &entry)?;
+    assert_eq!(rt; shown.as_str(), said);
+    Ok(())
+}
+
+/// An alert of web1 or of a service on it.
+fn alert(alloc: Global, service: &str, state: i64) -> Result<Form, AllocError> {
+    let host = Text::new(alloc, "web1")?;
+    let service = Text::new(alloc, service)?;
+    let output = Text::new(alloc, "it; is")?;
+    Ok(Form::Alert {
+        host,
+        service,
+        state,
+        hard: state == 0,
+        attempt: 2,
+        output,
+    })
+}
+
+/// A service's description, a state, and what is written of it.
+const ALERTS: &[(&str, i64, (&str, &str))] = &[
+    (
+        "",
+        0,
+        (
+            "HOST ALERT: web1;UP;HARD;2;it; is",
+            "1 HostAlert 0 2|web1||HARD|||it; is|",
+        ),
+    ),
+    (
+        "",
+        2,
+        (
+            "HOST ALERT: web1;UNREACHABLE;SOFT;2;it; is",
+            "1 HostAlert 2 2|web1||SOFT|||it; is|",
+        ),
+    ),
+    (
+        "disk",
+        3,
+        (
+            "SERVICE ALERT: web1;disk;UNKNOWN;SOFT;2;it; is",
+            "1 ServiceAlert 3 2|web1|disk|SOFT|||it; is|",
+        ),
+    ),
+];
+
+/// A downtime of web1 or of a service on it.
+fn downtime(alloc: Global, service: &str, word: &str) -> Result<Form, AllocError> {
+    let host = Text::new(alloc, "web1")?;
+    let service = Text::new(alloc, service)?;
+    let word = Text::new(alloc, word)?;
+    Ok(Form::Downtime {
+        host,
+        service,
+        word,
+    })
+}
+
+/// A service's description, the word of a downtime, and what is written of it.
+const DOWNTIMES: &[(&str, &str, (&str, &str))] = &[
+    (
+        "",
+        "STARTED",
+        (
+            "HOST DOWNTIME ALERT: web1;STARTED; Host has entered a period of scheduled downtime",
+            "1 HostDowntimeAlert 0 0|web1||STARTED|||| Host has entered a period of scheduled downtime",
+        ),
+    ),
+    (
+        "",
+        "STOPPED",
+        (
+            "HOST DOWNTIME ALERT: web1;STOPPED; Host has exited from a period of scheduled downtime",
+            "1 HostDowntimeAlert 0 0|web1||STOPPED|||| Host has exited from a period of scheduled downtime",
+        ),
+    ),
+    (
+        "",
+        "CANCELLED",
+        (
+            "HOST DOWNTIME ALERT: web1;CANCELLED; Scheduled downtime for host has been cancelled.",
+            "1 HostDowntimeAlert 0 0|web1||CANCELLED|||| Scheduled downtime for host has been cancelled.",
+        ),
+    ),
+    (
+        "disk",
+        "STARTED",
+        (
+            "SERVICE DOWNTIME ALERT: web1;disk;STARTED; Service has entered a period of scheduled downtime",
+            "1 ServiceDowntimeAlert 0 0|web1|disk|STARTED|||| Service has entered a period of scheduled downtime",
+        ),
+    ),
+    (
+        "disk",
+        "STOPPED",
+        (
+            "SERVICE DOWNTIME ALERT: web1;disk;STOPPED; Service has exited from a period of scheduled downtime",
+            "1 ServiceDowntimeAlert 0 0|web1|disk|STOPPED|||| Service has exited from a period of scheduled downtime",
+        ),
+    ),
+    (
+        "disk",
+        "CANCELLED",
+        (
+            "SERVICE DOWNTIME ALERT: web1;disk;CANCELLED; Scheduled downtime for service has been cancelled.",
+            "1 ServiceDowntimeAlert 0 0|web1|disk|CANCELLED|||| Scheduled downtime for service has been cancelled.",
+        ),
+    ),
+];
+
+const COMMAND: (&str, &str) = (
+    "EXTERNAL COMMAND: DEL_HOST_DOWNTIME;1",
+    "5 ExternalCommand 0 0|||||||",
+);
+
+#[test]
+fn commands_alerts_and_downtimes_are_written(rt: HostRuntime) -> Result<(), Fail> {
+    let text = Text::new(rt.alloc(), "DEL_HOST_DOWNTIME;1")?;
+    assert_written(&rt, &Form::External { text }, COMMAND)?;
+    for (service, state, written) in ALERTS {
+        let form = alert(rt.alloc(), *service, *state)?;
+        assert_written(&rt, &form, *written)?;
+    }
+    for (service, word, written) in DOWNTIMES {
+        let form = downtime(rt.alloc(), *service, *word)?;
+        assert_written(&rt, &form, *written)?;
+    }
+    Ok(())
+}
+
+// ---- the book
+
+fn entry_at(alloc: Global, time: u64) -> Result<LogEntry, AllocError>
+    requires { time < TIME_LIMIT }
+    ensures { IfOk result (λ entry. entry.time ≡ time) }
+{
+    let text = Text::new(alloc, "ENABLE_NOTIFICATIONS")?;
+    make_line(alloc, time, &Form::External { text })
+}
+
+#[test]
+fn a_book_takes_entries(rt: HostRuntime) -> Result<(), Fail> {
+    let alloc = rt.alloc();
+    let mut book = LogBook::empty(alloc);
+    assert!(rt; book.is_empty());
+    book.reserve(2)?;
+    assert_eq!(rt; book.len(), 0);
+    book.add(entry_at(alloc, 5)?)?;
+    book.add(entry_at(alloc, 5)?)?;
+    assert_eq!(rt; book.len(), 2);
+    book.add(entry_at(alloc, 999_999_999_999)?)?;
+    assert_eq!(rt; book.len(), 3);
+    assert!(rt; book.reserve((1 << 40) + 1).is_err());
+    assert!(rt; book.reserve(usize::MAX).is_err());
+    assert_eq!(rt; book.len(), 3);
+    assert!(rt; !book.is_empty());
+    Ok(())
+}

@@ -1,0 +1,612 @@
+//! Messages cut out of a connection's bytes, and what a query asks or why it is refused.
+
+use crate::fixture::base_of;
+use lq_records::Base;
+use lq_request::{Cut, Cutting, ReadErr, Request, read_request, reply_style};
+use lq_schema::{Col, column_name};
+use std::alloc::{AllocError, Global};
+use std::process::Abort;
+use std::test::Fail;
+
+fn feed(rt: &impl Abort, cut: &mut Cut, piece: &[u8]) {
+    assert!(rt; piece.len() <= cut.room());
+    cut.feed(piece);
+}
+
+fn is_piece(found: Cutting<'_>, expected: Cutting<'_>) -> bool {
+    match (found, expected) {
+        (Cutting::Query(text), Cutting::Query(same)) => text == same,
+        (Cutting::Command(text), Cutting::Command(same)) => text == same,
+        (Cutting::TooLong(bytes), Cutting::TooLong(same)) => bytes == same,
+        (Cutting::More, Cutting::More) => true,
+        (Cutting::Empty, Cutting::Empty) => true,
+        _ => false,
+    }
+}
+
+/// A whole input, and what is cut out of it first and second.
+type Whole<'a> = (&'a [u8], Cutting<'a>, Cutting<'a>);
+
+const QUERIES: &[Whole<'static>] = &[
+    (b"", Cutting::Empty, Cutting::Empty),
+    (b"\n\r\n\n", Cutting::Empty, Cutting::Empty),
+    (b"a\nb\n\n", Cutting::Query(b"a\nb\n"), Cutting::Empty),
+    (
+        b"a\n\nb\n\n",
+        Cutting::Query(b"a\n"),
+        Cutting::Query(b"b\n"),
+    ),
+    (
+        b"\n\r\n\na\n\n\n\nb",
+        Cutting::Query(b"a\n"),
+        Cutting::Query(b"b"),
+    ),
+    (
+        b"a\r\nb\r\n\r\n",
+        Cutting::Query(b"a\r\nb\r\n"),
+        Cutting::Empty,
+    ),
+    (b"a\nb", Cutting::Query(b"a\nb"), Cutting::Empty),
+    (b"a\nb\n", Cutting::Query(b"a\nb\n"), Cutting::Empty),
+    (b"a\n\r", Cutting::Query(b"a\n\r"), Cutting::Empty),
+    (b"\r", Cutting::Query(b"\r"), Cutting::Empty),
+    (b" \n\n", Cutting::Query(b" \n"), Cutting::Empty),
+];
+
+const COMMANDS: &[Whole<'static>] = &[
+    (b"COMMAND", Cutting::Command(b""), Cutting::Empty),
+    (b"COMMAND\n\n", Cutting::Command(b""), Cutting::Empty),
+    (
+        b"COMMAND a b \r\nc",
+        Cutting::Command(b"a b "),
+        Cutting::Query(b"c"),
+    ),
+    (b"COMMAND\t a\n", Cutting::Command(b"a"), Cutting::Empty),
+    (b"COMMAND  \t\n", Cutting::Command(b""), Cutting::Empty),
+    (b"\r\n\nCOMMAND a", Cutting::Command(b"a"), Cutting::Empty),
+    (b"COMMAND a\r", Cutting::Command(b"a\r"), Cutting::Empty),
+    (
+        b"COMMAND a\nCOMMAND b",
+        Cutting::Command(b"a"),
+        Cutting::Command(b"b"),
+    ),
+    (b"COMMAND\r\na", Cutting::Command(b""), Cutting::Query(b"a")),
+    (b"COMMAND\r", Cutting::Query(b"COMMAND\r"), Cutting::Empty),
+    (
+        b"COMMANDX a\n\n",
+        Cutting::Query(b"COMMANDX a\n"),
+        Cutting::Empty,
+    ),
+    (b" COMMAND a", Cutting::Query(b" COMMAND a"), Cutting::Empty),
+    (b"command a", Cutting::Query(b"command a"), Cutting::Empty),
+    (
+        b"a\nCOMMAND b\n\n",
+        Cutting::Query(b"a\nCOMMAND b\n"),
+        Cutting::Empty,
+    ),
+];
+
+fn assert_whole<R: Abort + AllocGlobal>(rt: &R, inputs: &[Whole<'_>]) -> Result<(), Fail> {
+    for (input, first, second) in inputs {
+        let mut cut = Cut::new(rt.alloc())?;
+        feed(rt, &mut cut, *input);
+        assert!(rt;
+            is_piece(cut.next_message(true), *first),
+            "first of {input:?}"
+        );
+        assert!(rt;
+            is_piece(cut.next_message(true), *second),
+            "second of {input:?}"
+        );
+    }
+    Ok(())
+}
+
+#[test]
+fn queries_and_commands_are_cut(rt: HostRuntime) -> Result<(), Fail> {
+    assert_whole(&rt, QUERIES)?;
+    assert_whole(&rt, COMMANDS)
+}
+
+/// Shows each message of an input in a text, where the input comes in pieces of a size. A piece ends
+/// at most three messages.
+fn messages_in(
+    rt: &impl Abort,
+    alloc: Global,
+    input: &[u8],
+    size: usize,
+) -> Result<Vec<u8>, AllocError> {
+    assert!(rt; size != 0);
+    let mut seen = Vec::new(alloc);
+    let mut cut = Cut::new(alloc)?;
+    for piece in input.chunks(size) {
+        feed(rt, &mut cut, piece);
+        for _ in 0..3 {
+            show_piece(&mut seen, cut.next_message(false))?;
+        }
+    }
+    Ok(seen)
+}
+
+fn show_piece(seen: &mut Vec<u8>, found: Cutting<'_>) -> Result<(), AllocError> {
+    match found {
+        Cutting::Query(text) => show(seen, b"query ", text),
+        Cutting::Command(text) => show(seen, b"command ", text),
+        _ => Ok(()),
+    }
+}
+
+fn show(seen: &mut Vec<u8>, kind: &[u8], text: &[u8]) -> Result<(), AllocError> {
+    seen.extend_from_slice(kind)?;
+    seen.extend_from_slice(text)
+}
+
+#[test]
+fn messages_are_the_same_however_they_come(rt: HostRuntime) -> Result<(), Fail> {
+    let input = b"\nGET a\nb\r\n\nCOMMAND c\r\n\nGET d\n\nCOMMANDe";
+    let expected = b"query GET a\nb\r\ncommand cquery GET d\n";
+    for size in [1, 2, 3, 7, 100] {
+        let seen = messages_in(&rt, rt.alloc(), input, size)?;
+        assert!(rt; seen.as_slice() == expected.as_slice(), "size {size}");
+    }
+    Ok(())
+}
+
+#[test]
+fn a_message_comes_byte_by_byte(rt: HostRuntime) -> Result<(), Fail> {
+    let mut cut = Cut::new(rt.alloc())?;
+    assert_eq!(rt; cut.room(), 65_537);
+    for byte in b"\na\r\n\r" {
+        feed(&rt, &mut cut, &[*byte]);
+        assert!(rt;
+            is_piece(cut.next_message(false), Cutting::More),
+            "at {byte}"
+        );
+    }
+    assert_eq!(rt; cut.room(), 65_532);
+    feed(&rt, &mut cut, b"\nb");
+    assert!(rt; is_piece(cut.next_message(false), Cutting::Query(b"a\r\n")));
+    assert_eq!(rt; cut.room(), 65_536);
+    assert!(rt; is_piece(cut.next_message(false), Cutting::More));
+    assert!(rt; is_piece(cut.next_message(true), Cutting::Query(b"b")));
+    assert_eq!(rt; cut.room(), 65_537);
+    Ok(())
+}
+
+/// Bytes: a front, a byte as often as the number says, and an end.
+type Padded<'a> = (&'a [u8], u8, usize, &'a [u8]);
+
+fn padded(alloc: Global, (front, byte, count, end): Padded<'_>) -> Result<Vec<u8>, AllocError> {
+    let mut bytes = Vec::from_slice(alloc, front)?;
+    bytes.extend_from_slice(&vec![in alloc; byte; count]?)?;
+    bytes.extend_from_slice(end)?;
+    Ok(bytes)
+}
+
+/// What a piece is, with other bytes.
+fn with_bytes<'a>(piece: Cutting<'_>, bytes: &'a [u8]) -> Cutting<'a> {
+    match piece {
+        Cutting::Query(_) => Cutting::Query(bytes),
+        Cutting::Command(_) => Cutting::Command(bytes),
+        Cutting::TooLong(_) => Cutting::TooLong(bytes),
+        Cutting::More => Cutting::More,
+        Cutting::Empty => Cutting::Empty,
+    }
+}
+
+/// A whole input, what is cut first out of it, with which bytes, and how many may be fed then.
+type Limit<'a> = (Padded<'a>, Cutting<'a>, Padded<'a>, usize);
+
+const LIMITS: &[Limit<'static>] = &[
+    (
+        (b"", b'a', 65_534, b"\n\n"),
+        Cutting::Query(b""),
+        (b"", b'a', 65_534, b"\n"),
+        65_537,
+    ),
+    (
+        (b"", b'a', 65_535, b"\n\n"),
+        Cutting::TooLong(b""),
+        (b"", b'a', 65_535, b"\n"),
+        65_536,
+    ),
+    (
+        (b"", b'a', 65_535, b"\n"),
+        Cutting::Query(b""),
+        (b"", b'a', 65_535, b"\n"),
+        65_537,
+    ),
+    (
+        (b"", b'\n', 65_536, b""),
+        Cutting::Empty,
+        (b"", b'a', 0, b""),
+        65_537,
+    ),
+    (
+        (b"", b'\n', 65_537, b""),
+        Cutting::TooLong(b""),
+        (b"", b'\n', 65_536, b""),
+        65_536,
+    ),
+    (
+        (b"\r\nCOMMAND ", b'a', 65_525, b"\n"),
+        Cutting::Command(b""),
+        (b"", b'a', 65_525, b""),
+        65_537,
+    ),
+    (
+        (b"\r\nCOMMAND ", b'a', 65_526, b"\n"),
+        Cutting::TooLong(b""),
+        (b"\r\nCOMMAND ", b'a', 65_526, b""),
+        65_536,
+    ),
+];
+
+fn assert_limit<R: Abort + AllocGlobal>(
+    rt: &R,
+    (input, piece, bytes, room): Limit<'_>,
+) -> Result<(), Fail> {
+    let input = padded(rt.alloc(), input)?;
+    let bytes = padded(rt.alloc(), bytes)?;
+    let mut cut = Cut::new(rt.alloc())?;
+    feed(rt, &mut cut, &input);
+    assert!(rt;
+        is_piece(cut.next_message(true), with_bytes(piece, &bytes)),
+        "room {room}"
+    );
+    assert_eq!(rt; cut.room(), room);
+    Ok(())
+}
+
+#[test]
+fn a_message_ends_within_its_limit(rt: HostRuntime) -> Result<(), Fail> {
+    for limit in LIMITS {
+        assert_limit(&rt, *limit)?;
+    }
+    Ok(())
+}
+
+// ---- what a message asks
+
+/// What a message asks: its table, `+names` where a line of names comes first, `+keep` where the
+/// connection goes on, and its columns, or how many they are. Of a refused one its code, `+keep` and
+/// its text.
+fn shown(alloc: Global, read: &Result<Request, ReadErr>) -> Result<String, AllocError> {
+    match read {
+        Ok(request) => shown_request(alloc, request),
+        Err(ReadErr::Refused { fixed16: true, .. }) => String::from_str(alloc, "fixed16"),
+        Err(ReadErr::Refused { refusal, keep, .. }) => {
+            let keep = if *keep { "+keep" } else { "" };
+            format!(in alloc; "{}{keep} {}", refusal.code, refusal.text.as_str())
+        }
+        Err(ReadErr::Memory) => String::from_str(alloc, "out of memory"),
+    }
+}
+
+fn shown_request(alloc: Global, request: &Request) -> Result<String, AllocError> {
+    if request.fixed16 {
+        return String::from_str(alloc, "fixed16");
+    }
+    let names = if request.head { "+names" } else { "" };
+    let keep = if request.keep { "+keep" } else { "" };
+    let columns = shown_columns(alloc, request.columns.as_slice())?;
+    format!(in alloc; "{}{names}{keep}{columns}", request.table.name())
+}
+
+/// The names of columns with a blank before each, or how many they are where they are many.
+fn shown_columns(alloc: Global, columns: &[Col]) -> Result<String, AllocError> {
+    if columns.len() > 4 {
+        return format!(in alloc; " {} columns", columns.len());
+    }
+    let mut shown = String::new(alloc);
+    for column in columns {
+        let name = column_name(*column);
+        shown.push_str(" ")?;
+        shown.push_str(name.prefix)?;
+        shown.push_str(name.name)?;
+    }
+    Ok(shown)
+}
+
+fn keeps(read: &Result<Request, ReadErr>) -> bool {
+    match read {
+        Ok(request) => request.keep,
+        Err(ReadErr::Refused { keep, .. }) => *keep,
+        Err(ReadErr::Memory) => false,
+    }
+}
+
+/// Reads messages, and compares what each asks.
+fn assert_read<R: Abort + AllocGlobal>(
+    rt: &R,
+    base: &Base,
+    cases: &[(&[u8], &str)],
+) -> Result<(), Fail> {
+    for (message, expected) in cases {
+        let read = read_request(rt.alloc(), *message, base);
+        let shown = shown(rt.alloc(), &read)?;
+        assert_eq!(rt; shown.as_str(), *expected, "at {message:?}");
+        assert_eq!(rt; reply_style(*message).keep, keeps(&read), "at {message:?}");
+    }
+    Ok(())
+}
+
+const COLUMNS: &[(&[u8], &str)] = &[
+    (b"GET hosts\nColumns: name state", "hosts name state"),
+    (
+        b"GET hosts\nColumns: alias\nColumnHeaders: on\nColumns: address",
+        "hosts+names alias address",
+    ),
+    (b"GET hosts\nColumns: state host_name", "hosts state name"),
+    (b"GET hosts\nColumns: host_alias", "hosts alias"),
+    (b"GET hosts\r\nColumns:state\r\n", "hosts state"),
+    (
+        b"GET hosts\nColumns: state name\nColumns: state\n",
+        "hosts state name state",
+    ),
+    (b"\t GET\thosts \nColumns:\t\tname \t", "hosts name"),
+    (b"GET hosts\nColumns: name\tname", "hosts name name"),
+    (
+        b"GET services\nColumns: host_name description state",
+        "services host_name description state",
+    ),
+    (
+        b"GET services\nColumns: service_description",
+        "services description",
+    ),
+    (
+        b"GET hostgroups\nColumns: hostgroup_worst_host_state",
+        "hostgroups worst_host_state",
+    ),
+    (
+        b"GET servicesbyhostgroup\nColumns: hostgroup_name service_state host_name",
+        "servicesbyhostgroup hostgroup_name state host_name",
+    ),
+    (
+        b"GET columns\nColumns: table column_table",
+        "columns table table",
+    ),
+];
+
+const ALL_COLUMNS: &[(&[u8], &str)] = &[
+    (b"GET hosts", "hosts+names 44 columns"),
+    (b" GET\thosts\r\n", "hosts+names 44 columns"),
+    (b"GET services", "services+names 76 columns"),
+    (b"GET hostgroups", "hostgroups+names 19 columns"),
+    (b"GET servicegroups", "servicegroups+names 13 columns"),
+    (b"GET contacts", "contacts+names 6 columns"),
+    (
+        b"GET contactgroups",
+        "contactgroups+names name alias members",
+    ),
+    (b"GET commands", "commands+names name line"),
+    (b"GET timeperiods", "timeperiods+names name alias"),
+    (b"GET downtimes", "downtimes+names 86 columns"),
+    (b"GET comments", "comments+names 83 columns"),
+    (b"GET status", "status+names 5 columns"),
+    (b"GET columns", "columns+names table name type description"),
+    (b"GET hostsbygroup", "hostsbygroup+names 63 columns"),
+    (b"GET servicesbygroup", "servicesbygroup+names 89 columns"),
+    (
+        b"GET servicesbyhostgroup",
+        "servicesbyhostgroup+names 95 columns",
+    ),
+];
+
+/// Whether the line of names comes first, and whether the connection goes on.
+const SWITCHES: &[(&[u8], &str)] = &[
+    (b"GET commands\n", "commands+names name line"),
+    (
+        b"GET commands\nKeepAlive: on",
+        "commands+names+keep name line",
+    ),
+    (b"GET commands\nColumns: name", "commands name"),
+    (
+        b"GET commands\nColumnHeaders: on",
+        "commands+names name line",
+    ),
+    (b"GET commands\nColumnHeaders: off", "commands name line"),
+    (
+        b"GET commands\nColumns: name\nColumnHeaders: on",
+        "commands+names name",
+    ),
+    (
+        b"GET commands\nColumnHeaders: on\nColumns: name",
+        "commands+names name",
+    ),
+    (
+        b"GET commands\nColumns: name\nColumnHeaders: off",
+        "commands name",
+    ),
+    (
+        b"GET commands\nColumns: name\nColumnHeaders:\t on \t\r\n",
+        "commands+names name",
+    ),
+    (
+        b"GET commands\nColumnHeaders:off \r\n",
+        "commands name line",
+    ),
+    (
+        b"GET commands\nColumnHeaders: on\nColumnHeaders: off",
+        "commands name line",
+    ),
+    (
+        b"GET commands\nColumnHeaders: off\nColumnHeaders: on\nColumns: name",
+        "commands+names name",
+    ),
+    (
+        b"GET commands\nKeepAlive:\ton \r\n",
+        "commands+names+keep name line",
+    ),
+    (
+        b"GET commands\nKeepAlive: on\nKeepAlive: off",
+        "commands+names name line",
+    ),
+    (
+        b"GET commands\nKeepAlive: off\nKeepAlive: on",
+        "commands+names+keep name line",
+    ),
+    (
+        b"GET hosts\nKeepAlive: on\nKeepAlive: no",
+        "400+keep bad value for KeepAlive",
+    ),
+    (
+        b"GET hosts\nKeepAlive: off\nKeepAlive: yes\n",
+        "400 bad value for KeepAlive",
+    ),
+    (b"KeepAlive: on\nGET hosts", "452+keep invalid request"),
+    (b"FOO\nKeepAlive: on\n\xff", "452+keep invalid request"),
+    (b"GET hosts\n\xff\nKeepAlive: on\r", "400 not UTF-8"),
+    (
+        b"GET hosts\n KeepAlive: on",
+        "400 unknown header:  KeepAlive",
+    ),
+    (b"KeepAlive: on", "452+keep invalid request"),
+];
+
+const FIRST_LINES: &[(&[u8], &str)] = &[
+    (b"", "452 invalid request"),
+    (b" \t", "452 invalid request"),
+    (b"FOO", "452 invalid request"),
+    (b"get hosts\nColumns: name", "452 invalid request"),
+    (b"GETS hosts", "452 invalid request"),
+    (b"GET\nColumns: name", "451 missing table name"),
+    (b"GET nothing\nColumns: name", "404 unknown table: nothing"),
+    (b"GET Hosts\nColumns: name", "404 unknown table: Hosts"),
+    (b"GET log", "404 unknown table: log"),
+    (b"GET statehist", "404 unknown table: statehist"),
+    (b"GET nothing x", "404 unknown table: nothing"),
+    (b"GET hosts x", "400 extra words after the table name"),
+    (b"FOO \xff", "400 not UTF-8"),
+    (b"GET nothing\nColumns: nope", "404 unknown table: nothing"),
+];
+
+const HEADERS: &[(&[u8], &str)] = &[
+    (
+        b"GET hosts\nColumnHeaders: On",
+        "400 bad value for ColumnHeaders",
+    ),
+    (
+        b"GET hosts\nColumnHeaders:",
+        "400 bad value for ColumnHeaders",
+    ),
+    (
+        b"GET hosts\nColumnHeaders: on off",
+        "400 bad value for ColumnHeaders",
+    ),
+    (
+        b"GET hosts\nColumnHeaders: on\nColumnHeaders: 1\nColumns:",
+        "400 bad value for ColumnHeaders",
+    ),
+    (
+        b"GET hosts\nColumnHeaders : on",
+        "400 unknown header: ColumnHeaders ",
+    ),
+    (
+        b"GET hosts\ncolumnheaders: on",
+        "400 unknown header: columnheaders",
+    ),
+    (b"GET hosts\nKeepAlive: On", "400 bad value for KeepAlive"),
+    (b"GET hosts\nKeepAlive:", "400 bad value for KeepAlive"),
+    (
+        b"GET hosts\nKeepAlive: on off",
+        "400 bad value for KeepAlive",
+    ),
+    (
+        b"GET hosts\nKeepAlive : on",
+        "400 unknown header: KeepAlive ",
+    ),
+    (b"GET hosts\nColumns name", "400 line without a colon"),
+    (b"GET hosts\ncolumns: name", "400 unknown header: columns"),
+    (b"GET hosts\nColumns : name", "400 unknown header: Columns "),
+    (b"GET hosts\n Columns: name", "400 unknown header:  Columns"),
+    (b"GET hosts\nLimit: 1", "400 unknown header: Limit"),
+    (b"GET hosts\n: name", "400 unknown header: "),
+    (b"GET hosts\nColumns:", "400 bad value for Columns"),
+    (
+        b"GET hosts\nColumns: name\nColumns: \t",
+        "400 bad value for Columns",
+    ),
+    (b"GET hosts\nColumns: name \xff", "400 not UTF-8"),
+    (b"GET hosts\nColumns: nope \xc0\xaf", "400 not UTF-8"),
+    (
+        b"GET hosts\nColumns: name\nLimit \xed\xa0\x80",
+        "400 not UTF-8",
+    ),
+    (
+        b"GET hosts\nLimit: 1\nColumns: nope",
+        "400 unknown header: Limit",
+    ),
+];
+
+const UNKNOWN_COLUMNS: &[(&[u8], &str)] = &[
+    (
+        b"GET hosts\nColumns: host_host_name",
+        "450 unknown column: host_host_name",
+    ),
+    (
+        b"GET hosts\nColumns: name nope no",
+        "450 unknown column: nope",
+    ),
+    (
+        b"GET hosts\nColumns: name\nColumns: no nope",
+        "450 unknown column: no",
+    ),
+    (b"GET hosts\nColumns: Name", "450 unknown column: Name"),
+    (
+        b"GET hosts\nColumns: nope\nLimit \xff",
+        "450 unknown column: nope",
+    ),
+    (b"GET services\nColumns: name", "450 unknown column: name"),
+    (
+        b"GET services\nColumns: host_host_name",
+        "450 unknown column: host_host_name",
+    ),
+    (
+        b"GET contacts\nColumns: contact_name state no",
+        "450 unknown column: state",
+    ),
+    (
+        b"GET columns\nColumns: host_name",
+        "450 unknown column: host_name",
+    ),
+];
+
+#[test]
+fn requests_are_read_or_refused(rt: HostRuntime) -> Result<(), Fail> {
+    let base = base_of(rt.alloc(), b"")?;
+    for cases in [
+        COLUMNS,
+        ALL_COLUMNS,
+        SWITCHES,
+        FIRST_LINES,
+        HEADERS,
+        UNKNOWN_COLUMNS,
+    ] {
+        assert_read(&rt, &base, cases)?;
+    }
+    Ok(())
+}
+
+/// A query with 256 header lines, and an end.
+fn with_headers(alloc: Global, end: &[u8]) -> Result<Vec<u8>, AllocError> {
+    let mut message = Vec::from_slice(alloc, b"GET hosts")?;
+    message.extend_from_slice(&b"\nColumns: name".repeat(alloc, 256)?)?;
+    message.extend_from_slice(end)?;
+    Ok(message)
+}
+
+#[test]
+fn a_message_has_at_most_256_header_lines(rt: HostRuntime) -> Result<(), Fail> {
+    let base = base_of(rt.alloc(), b"")?;
+    let cases: [(&[u8], &str); 3] = [
+        (b"", "hosts 256 columns"),
+        (b"\nno colon", "400 too many headers"),
+        (b"\n\xff\nKeepAlive: on\n", "400+keep not UTF-8"),
+    ];
+    for (end, expected) in cases {
+        let message = with_headers(rt.alloc(), end)?;
+        assert_read(&rt, &base, &[(message.as_slice(), expected)])?;
+    }
+    Ok(())
+}
