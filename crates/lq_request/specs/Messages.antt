@@ -46,8 +46,8 @@ command_text line = without_front (drop 7 line)
 -- ---- a message
 
 -- A message at the front of the bytes: its kind; the lines of a query, or the text of a command;
--- whether its end has come; and how many bytes it then takes, with the empty lines before it and the
--- one that ends a query.
+-- whether its end has come; and how many bytes it then takes, with the empty lines before it and
+-- the one that ends a query.
 pub record Message : Type 0 where
   pub kind : MessageKind
   pub text : List ℕ
@@ -166,18 +166,20 @@ needed input = needed_for input (message_of (take MESSAGE_LIMIT input))
 
 -- The piece is the first one of the input, however it goes on; after `ended` it doesn't go on.
 pub record IsFirst (piece : Piece) (ended : Bool) (held : List ℕ) : Type 0 where
-  pub first : (rest : List ℕ) → (IsTrue ended → rest ≡ []) → piece ≡ first_piece true (held ++ rest)
-  pub read : (rest : List ℕ) → (IsTrue ended → rest ≡ []) → needed (held ++ rest) ≤ length held
+  pub first : (rest : List ℕ) → (IsTrue ended → rest ≡ [])
+      → piece ≡ first_piece true (held ++ rest)
+  pub read : (rest : List ℕ) → (IsTrue ended → rest ≡ [])
+      → needed (held ++ rest) ≤ length held
 
--- The piece stands first in the bytes that are held. It is `More` only where no message is whole, and
--- then there is room for another byte.
+-- The piece stands first in the bytes that are held. It is `More` only where no message is whole,
+-- and then there is room for another byte.
 pub record IsNext (ended : Bool) (held : List ℕ) (piece : Piece) : Type 0 where
   pub is : piece ≡ first_piece ended held
   pub first : piece ≢ More → IsFirst piece ended held
   pub more : piece ≡ More → (ended ≡ false) × (length held ≤ MESSAGE_LIMIT)
 
--- The message is the first one of the input, and of those that are known to be whole, before those of
--- what is left, however the input goes on. Less is left than was held.
+-- The message is the first one of the input, and of those that are known to be whole, before those
+-- of what is left, however the input goes on. Less is left than was held.
 pub record IsCutOff (ended : Bool) (held : List ℕ) (piece : Piece) (left : List ℕ) : Type 0 where
   pub all : (rest : List ℕ) → (IsTrue ended → rest ≡ [])
       → messages (held ++ rest) ≡ piece ∷ messages (left ++ rest)
@@ -187,8 +189,10 @@ pub record IsCutOff (ended : Bool) (held : List ℕ) (piece : Piece) (left : Lis
 
 -- The too long message is the last one of the input, however it goes on.
 pub record IsLast (ended : Bool) (held : List ℕ) (piece : Piece) : Type 0 where
-  pub all : (rest : List ℕ) → (IsTrue ended → rest ≡ []) → messages (held ++ rest) ≡ piece ∷ []
-  pub known : (rest : List ℕ) → ended ≡ false → whole_messages (held ++ rest) ≡ piece ∷ []
+  pub all : (rest : List ℕ) → (IsTrue ended → rest ≡ [])
+      → messages (held ++ rest) ≡ piece ∷ []
+  pub known : (rest : List ℕ) → ended ≡ false
+      → whole_messages (held ++ rest) ≡ piece ∷ []
 
 -- Pieces come in the order of the messages: `left` is what is held after the piece.
 abbrev pub IsInOrder : Bool → List ℕ → Piece → List ℕ → Type 0

@@ -20,3 +20,9 @@ abbrev pub Finds : {X : Type 0} → Result X Fault → Result X Reason → Type 
 Finds (Ok found) part = part ≡ Ok found
 Finds (Err (fault.Refused reason)) part = part ≡ Err reason
 Finds (Err fault.Memory) part = Unit {0}
+
+-- the same of a change: where it went well, it leaves what the definition says
+abbrev pub Leaves : {X : Type 0} → Result Unit Fault → X → Result X Reason → Type 0
+Leaves (Ok done) left part = part ≡ Ok left
+Leaves (Err (fault.Refused reason)) left part = part ≡ Err reason
+Leaves (Err fault.Memory) left part = Unit {0}

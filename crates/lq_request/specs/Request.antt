@@ -1,10 +1,9 @@
 -- What a message asks, or why it is refused.
-use Rattle.std.specs.Prelude.{ℕ, Bool, true, false, Option, Some, None, unwrap_or, Result, Ok, Err, List, [], ◌∷◌, bytes_eq, codes, if◌then◌else◌}
+use Rattle.std.specs.Prelude.{ℕ, Option, Some, None, is_none, unwrap_or, Result, Ok, Err, List, [], ◌∷◌, bytes_eq, codes, if◌then◌else◌}
 use Rattle.std.specs.Str.{is_utf8}
 use Rattle.lq_text.specs.Lines.{lines_of}
 use Rattle.lq_text.specs.Blanks.{words_of}
 use Rattle.lq_schema.specs.Schema.{table_of, columns_of}
-use Rattle.lq_schema.specs.declared.columns.Col.{Col}
 use Rattle.lq_schema.specs.declared.columns.Table.{Table}
 use Rattle.lq_records.specs.declared.refusal.Refusal.{Refusal}
 use Rattle.lq_request.specs.declared.request.Request.{Request}
@@ -38,25 +37,13 @@ first_line line = if is_utf8 line then first_words (words_of line) else Err reas
 
 -- ---- a message
 
--- the columns that are named, or all where none is
-abbrev pub chosen_columns : Table → List Col → List Col
-chosen_columns table [] = columns_of table
-chosen_columns table (column ∷ columns) = column ∷ columns
-
-abbrev pub none_named : List Col → Bool
-none_named [] = true
-none_named (column ∷ columns) = false
-
--- whether a line of names is written: as the switch says; without one, exactly where no columns are
--- named
-abbrev pub has_names : Headers → Bool
-has_names headers = unwrap_or headers.names (none_named headers.columns)
-
+-- Where no header names columns, they are all, and a line of names is written unless a switch says
+-- otherwise; where one does, it is written where a switch says so.
 abbrev pub request_of : Style → Table → Headers → Request
 request_of style table headers = record {
   table = table;
-  columns = chosen_columns table headers.columns;
-  head = has_names headers;
+  columns = unwrap_or headers.columns (columns_of table);
+  head = unwrap_or headers.names (is_none headers.columns);
   fixed16 = style.fixed16;
   keep = style.keep;
 }
@@ -65,9 +52,11 @@ abbrev pub asked_table : Style → Table → Result Headers Reason → Result Re
 asked_table style table (Err fault) = Err fault
 asked_table style table (Ok headers) = Ok (request_of style table headers)
 
-abbrev pub asked_headers : Style → List (List ℕ) → Result Table Reason → Result Request Reason
+abbrev pub asked_headers :
+    Style → List (List ℕ) → Result Table Reason → Result Request Reason
 asked_headers style headers (Err fault) = Err fault
-asked_headers style headers (Ok table) = asked_table style table (header_lines table 1 headers no_headers)
+asked_headers style headers (Ok table) =
+    asked_table style table (header_lines table 1 headers no_headers)
 
 abbrev pub asked_lines : Style → List (List ℕ) → Result Request Reason
 asked_lines style [] = Err reason.InvalidRequest

@@ -11,7 +11,8 @@ use std::marker::Model;
 /// The longest message in bytes, with the empty lines before it and the empty line that ends it.
 pub const MESSAGE_LIMIT: usize = 65_536;
 
-/// The most bytes that are held: one more than a message may have shows that the bytes go on past it.
+/// The most bytes that are held: one more than a message may have shows that the bytes go on past
+/// it.
 const CAPACITY: usize = 65_537;
 
 /// What stands first in the bytes of a connection.
@@ -29,8 +30,8 @@ pub enum Cutting<'a> {
     TooLong(&'a [u8]),
 }
 
-/// Cuts messages out of the bytes of a connection, in whatever pieces they come. Contracts see it as
-/// the bytes that were fed and not yet cut off.
+/// Cuts messages out of the bytes of a connection, in whatever pieces they come. Contracts see it
+/// as the bytes that were fed and not yet cut off.
 #[derive(Drop)]
 pub struct Cut {
     buffer: Vec<u8>,
@@ -93,10 +94,12 @@ impl Cut {
         &self.buffer[self.start..self.end]
     }
 
-    /// Cuts off what stands first; `ended` says that no more bytes come. `More` leaves all as it was.
+    /// Cuts off what stands first; `ended` says that no more bytes come. `More` leaves all as it
+    /// was.
     pub fn next_message(&mut self, ended: bool) -> Cutting<'_>
         ensures next { IsNext ended self.old (shown result) }
-        ensures order { IsInOrder ended self.old (shown result) (rest_behind (shown result) self.old) }
+        ensures order { IsInOrder ended self.old (shown result)
+            (rest_behind (shown result) self.old) }
         ensures* rest { sem 𝓛 (follows_so the_row the_row self.entry.ghost_name none (λ _ _. ⊤)
             (λ held. held ≡ rest_behind (shown result) self.old)) }
     {

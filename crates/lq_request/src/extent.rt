@@ -12,7 +12,7 @@ use lq_text::{is_blank, next_line};
 const COMMAND_LENGTH: usize = 7;
 
 /// What a message is, by the first of its lines.
-#[derive(Clone, Copy, PartialEq, Eq)]
+#[derive(Clone, Copy)]
 pub enum MessageKind {
     /// It has the lines of a query.
     Query,
@@ -36,7 +36,7 @@ pub struct Extent {
 }
 
 /// A line without text, or with some.
-#[derive(Clone, Copy, PartialEq, Eq)]
+#[derive(Clone, Copy)]
 enum LineKind {
     Empty,
     Text,
@@ -83,7 +83,8 @@ fn query_at(bytes: &[u8], start: usize) -> Extent
     }
 }
 
-/// The length of `COMMAND` and its blanks at the front of a line. None where the line is no command.
+/// The length of `COMMAND` and its blanks at the front of a line. None where the line is no
+/// command.
 #[tactic(auto, unfolding(crate::specs::Messages::is_command, crate::specs::Messages::command_text))]
 fn command_length(line: &[u8]) -> Option<usize>
     ensures none { IfNone result (is_command line.now ≡ false) }
@@ -137,7 +138,8 @@ fn front_length(bytes: &[u8], kind: LineKind) -> usize
 
 /// Whether a line whose text has this length is of a kind.
 fn is_of_kind(kind: LineKind, text: usize) -> bool
-    ensures { (line : List ℕ) → length (line_text line) ≡ text → result ≡ is_line_of kind line }
+    ensures { (line : List ℕ) → length (line_text line) ≡ text
+        → result ≡ is_line_of kind line }
 {
     match kind {
         LineKind::Empty => text == 0,

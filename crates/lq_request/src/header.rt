@@ -1,16 +1,16 @@
-ghost use Rattle.std.specs.Prelude.{◌≡◌, ◌++◌, OnOk, map, position};
+ghost use Rattle.std.specs.Prelude.{◌≡◌, ◌++◌, [], Some, OnOk, map, ok_or, position, unwrap_or};
 ghost use Rattle.std.specs.List.{AllByRecursion};
 ghost use Rattle.std.specs.Str.{IsUtf8};
 ghost use Rattle.lq_text.specs.Lines.{lines_of};
-ghost use Rattle.lq_text.specs.Blanks.{words_of};
-ghost use Rattle.lq_request.specs.Headers.{applied, columns_value, columns_of_words, header_at, header_line, header_lines, header_of, no_headers, switch};
-ghost use Rattle.lq_request.specs.Reading.{Finds};
-ghost use Rattle.lq_request.specs.Style.{is_colon, switch_value};
+ghost use Rattle.lq_request.specs.Headers.{columns_of_words, columns_value, header_lines, no_headers};
+ghost use Rattle.lq_request.specs.Headers.{switch, with_header, with_header_at, with_line};
+ghost use Rattle.lq_request.specs.Reading.{Finds, Leaves};
+ghost use Rattle.lq_request.specs.Style.{is_colon};
 
 use crate::fault::Fault;
 use crate::reason::Reason;
 use crate::style::{colon_place, switch_value};
-use crate::words::{as_text, copy_of, is_text, words_of};
+use crate::words::{as_text, is_text, words_of};
 use lq_records::{Items, Memory, Text};
 use lq_schema::{Col, Table, column};
 use lq_text::next_line;
@@ -19,52 +19,80 @@ use std::alloc::Global;
 /// The most header lines that a query may have. The next one is refused.
 pub const MOST_HEADERS: usize = 256;
 
-/// A header with its value.
-#[derive(Drop)]
-pub enum Header {
-    /// Columns of the answer, in order.
-    Columns(Items<Col>),
-    /// Whether a line of the columns' names comes first.
-    ColumnHeaders(bool),
-    /// Whether the connection goes on, of which the style speaks.
-    KeepAlive(bool),
-}
-
-/// What all headers say.
-#[derive(Drop)]
+/// What the header lines say. Each field is None where no line speaks of it.
+#[derive(Default, Drop)]
 pub struct Headers {
     /// The columns that they name, in order.
-    pub columns: Items<Col>,
-    /// Whether a line of the columns' names comes first, where a header says so.
+    pub columns: Option<Items<Col>>,
+    /// Whether a line of the columns' names comes first.
     pub names: Option<bool>,
 }
 
 impl Headers {
-    fn none(alloc: Global) -> Self
-        ensures { result ≡ no_headers }
+    /// Adds what one more header says. `KeepAlive` leaves all as it was: the style speaks of it.
+    #[tactic(auto, unfolding(crate::specs::Headers::with_header))]
+    fn add(&mut self, alloc: Global, table: Table, name: &str, value: &str) -> Result<(), Fault>
+        ensures { Leaves result self.new (with_header table name.now value.now self.old) }
     {
-        Headers {
-            columns: Items::new(alloc),
-            names: None,
+        match name {
+            "Columns" => self.add_columns(columns_value(alloc, table, name, value)?)?,
+            "ColumnHeaders" => self.names = Some(switch(alloc, name, value)?),
+            "KeepAlive" => {
+                switch(alloc, name, value)?;
+            }
+            _ => return Err(Fault::Refused(Reason::UnknownHeader(Text::new(alloc, name)?))),
+        }
+        Ok(())
+    }
+
+    fn add_columns(&mut self, more: Items<Col>) -> Result<(), Memory>
+        ensures { OnOk result (self.new
+            ≡ record self.old { columns = Some (unwrap_or self.old.columns [] ++ more) }) }
+    {
+        match &mut self.columns {
+            Some(columns) => push_all(columns, more.as_slice()),
+            None => {
+                self.columns = Some(more);
+                Ok(())
+            }
         }
     }
 
-    /// Adds what one more header says.
-    fn apply(&mut self, header: Header) -> Result<(), Memory>
-        ensures { OnOk result (self.new ≡ applied header self.old) }
+    /// Adds the header of a line, by the line's number from 1.
+    fn add_line(
+        &mut self,
+        alloc: Global,
+        table: Table,
+        number: usize,
+        line: &[u8],
+    ) -> Result<(), Fault>
+        ensures { Leaves result self.new (with_line table number line.now self.old) }
     {
-        match header {
-            Header::Columns(columns) => add_columns(&mut self.columns, columns.as_slice()),
-            Header::ColumnHeaders(names) => {
-                self.names = Some(names);
-                Ok(())
-            }
-            Header::KeepAlive(_) => Ok(()),
+        if !is_text(line) {
+            return Err(Fault::Refused(Reason::NotUtf8));
         }
+        if number > MOST_HEADERS {
+            return Err(Fault::Refused(Reason::TooManyHeaders));
+        }
+        self.add_parts(alloc, table, line)
+    }
+
+    /// Adds the header of a line, whose name goes up to its first colon.
+    fn add_parts(&mut self, alloc: Global, table: Table, line: &[u8]) -> Result<(), Fault>
+        requires { IsUtf8 line.now }
+        ensures { Leaves result self.new
+            (with_header_at table line.now (position is_colon line.now) self.old) }
+    {
+        let Some(colon) = colon_place(line) else {
+            return Err(Fault::Refused(Reason::NoColon));
+        };
+        let name = as_text(&line[..colon]);
+        let value = as_text(&line[colon + 1..]);
+        self.add(alloc, table, name, value)
     }
 }
 
-fn add_columns(columns: &mut Items<Col>, more: &[Col]) -> Result<(), Memory>
+fn push_all(columns: &mut Items<Col>, more: &[Col]) -> Result<(), Memory>
     ensures { OnOk result (columns.new ≡ columns.old ++ more.now) }
 {
     for column in more {
@@ -77,84 +105,34 @@ fn add_columns(columns: &mut Items<Col>, more: &[Col]) -> Result<(), Memory>
 pub fn header_lines(alloc: Global, table: Table, bytes: &[u8]) -> Result<Headers, Fault>
     ensures { Finds result (header_lines table 1 (lines_of bytes.now) no_headers) }
 {
-    let mut headers = Headers::none(alloc);
+    let mut headers = Headers::default();
     let mut number = 0;
     let mut at = 0;
     'lines: while let Some((end, next)) = next_line(bytes, at) {
         number += 1;
-        headers.apply(header_line(alloc, table, number, &bytes[at..end])?)?;
+        headers.add_line(alloc, table, number, &bytes[at..end])?;
         at = next;
     }
     Ok(headers)
 }
 
-/// The header of a line, by the line's number from 1.
-fn header_line(alloc: Global, table: Table, number: usize, line: &[u8]) -> Result<Header, Fault>
-    ensures { Finds result (header_line table number line.now) }
-{
-    if !is_text(line) {
-        return Err(Fault::Refused(Reason::NotUtf8));
-    }
-    if number > MOST_HEADERS {
-        return Err(Fault::Refused(Reason::TooManyHeaders));
-    }
-    header_at(alloc, table, line)
-}
-
-/// The header of a line, whose name goes up to its first colon.
-fn header_at(alloc: Global, table: Table, line: &[u8]) -> Result<Header, Fault>
-    requires { IsUtf8 line.now }
-    ensures { Finds result (header_at table line.now (position is_colon line.now)) }
-{
-    match colon_place(line) {
-        Some(colon) => header_of(alloc, table, &line[..colon], &line[colon + 1..]),
-        None => Err(Fault::Refused(Reason::NoColon)),
-    }
-}
-
-/// The header of a name with a value.
-#[tactic(auto, unfolding(crate::specs::Headers::header_of))]
-fn header_of(alloc: Global, table: Table, name: &[u8], value: &[u8]) -> Result<Header, Fault>
-    requires name { IsUtf8 name.now }
-    requires value { IsUtf8 value.now }
-    ensures { Finds result (header_of table name.now value.now) }
-{
-    if name == b"Columns".as_slice() {
-        Ok(Header::Columns(columns_value(alloc, table, name, value)?))
-    } else if name == b"ColumnHeaders".as_slice() {
-        Ok(Header::ColumnHeaders(switch(alloc, name, value)?))
-    } else if name == b"KeepAlive".as_slice() {
-        Ok(Header::KeepAlive(switch(alloc, name, value)?))
-    } else {
-        Err(Fault::Refused(Reason::UnknownHeader(copy_of(alloc, name)?)))
-    }
-}
-
 /// What the value of a switch says.
-fn switch(alloc: Global, name: &[u8], value: &[u8]) -> Result<bool, Fault>
-    requires { IsUtf8 name.now }
-    ensures { Finds result (switch name.now (switch_value value.now)) }
+fn switch(alloc: Global, name: &str, value: &str) -> Result<bool, Fault>
+    ensures { Finds result (switch name.now value.now) }
 {
-    match switch_value(value) {
+    match switch_value(value.as_bytes()) {
         Some(on) => Ok(on),
-        None => Err(Fault::Refused(Reason::BadValue(copy_of(alloc, name)?))),
+        None => Err(Fault::Refused(Reason::BadValue(Text::new(alloc, name)?))),
     }
 }
 
 /// The columns that a value names, in order.
-fn columns_value(
-    alloc: Global,
-    table: Table,
-    name: &[u8],
-    value: &[u8],
-) -> Result<Items<Col>, Fault>
-    requires name { IsUtf8 name.now }
-    requires value { IsUtf8 value.now }
-    ensures { Finds result (columns_value table name.now (words_of value.now)) }
+fn columns_value(alloc: Global, table: Table, name: &str, value: &str) -> Result<Items<Col>, Fault>
+    ensures { Finds result (columns_value table name.now value.now) }
 {
-    let words = words_of(alloc, value)?;
+    let words = words_of(alloc, value.as_bytes())?;
     if words.is_empty() {
-        return Err(Fault::Refused(Reason::BadValue(copy_of(alloc, name)?)));
+        return Err(Fault::Refused(Reason::BadValue(Text::new(alloc, name)?)));
     }
     columns_of_words(alloc, table, &words)
 }

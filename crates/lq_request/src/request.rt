@@ -1,10 +1,10 @@
-ghost use Rattle.std.specs.Prelude.{◌≡◌, IfOk, map};
+ghost use Rattle.std.specs.Prelude.{◌≡◌, IfOk, map, unwrap_or};
 ghost use Rattle.std.specs.List.{AllByRecursion};
 ghost use Rattle.std.specs.Str.{IsUtf8};
 ghost use Rattle.lq_schema.specs.Schema.{columns_of};
 ghost use Rattle.lq_text.specs.Lines.{lines_of};
 ghost use Rattle.lq_request.specs.Reading.{Finds, Reads};
-ghost use Rattle.lq_request.specs.Request.{asked, asked_in, chosen_columns, first_line, request_of, table_of_words};
+ghost use Rattle.lq_request.specs.Request.{asked, asked_in, first_line, request_of, table_of_words};
 
 use crate::fault::Fault;
 use crate::header::{Headers, header_lines};
@@ -26,7 +26,8 @@ pub struct Request {
     /// Whether a line of the columns' names comes first: what the last `ColumnHeaders` line says;
     /// without one, true exactly where no columns are named.
     pub head: bool,
-    /// Whether a line of 16 bytes with the code and the length comes first. It is always false so far.
+    /// Whether a line of 16 bytes with the code and the length comes first. It is always false so
+    /// far.
     pub fixed16: bool,
     /// Whether the connection goes on after the reply.
     pub keep: bool,
@@ -49,10 +50,11 @@ pub enum ReadErr {
 ///
 /// The first line decides first: 400 `not UTF-8`; 452 `invalid request` where its first word isn't
 /// `GET`; 451 `missing table name`; 404 `unknown table: <word>`; 400 `extra words after the table
-/// name`. Then the first header line with a fault does, and in it the first of these: 400 `not UTF-8`;
-/// `too many headers` in the 257th; `line without a colon`; `unknown header: <name>`; `bad value for
-/// Columns` without a word; 450 `unknown column: <word>`; `bad value for ColumnHeaders` and `bad value
-/// for KeepAlive` where it isn't `on` or `off`. Both have the style that `reply_style` gives.
+/// name`. Then the first header line with a fault does, and in it the first of these: 400 `not
+/// UTF-8`; `too many headers` in the 257th; `line without a colon`; `unknown header: <name>`; `bad
+/// value for Columns` without a word; 450 `unknown column: <word>`; `bad value for ColumnHeaders`
+/// and `bad value for KeepAlive` where it isn't `on` or `off`. Both have the style that
+/// `reply_style` gives.
 #[tactic(auto, unfolding(crate::specs::Request::asked))]
 pub fn read_request(alloc: Global, b: &[u8], _base: &Base) -> Result<Request, ReadErr>
     ensures { Reads result (asked b.now) }
@@ -129,7 +131,7 @@ fn request_of(
 ) -> Result<Request, Memory>
     ensures { IfOk result (λ request. request ≡ request_of style table headers) }
 {
-    let head = headers.names.unwrap_or(headers.columns.is_empty());
+    let head = headers.names.unwrap_or(headers.columns.is_none());
     let columns = chosen_columns(alloc, table, headers.columns)?;
     Ok(Request {
         table,
@@ -140,14 +142,18 @@ fn request_of(
     })
 }
 
-/// The columns that are named, or all where none is.
-fn chosen_columns(alloc: Global, table: Table, named: Items<Col>) -> Result<Items<Col>, Memory>
-    ensures { IfOk result (λ columns. columns ≡ chosen_columns table named) }
+/// The columns that are named, or all where no header names any.
+fn chosen_columns(
+    alloc: Global,
+    table: Table,
+    named: Option<Items<Col>>,
+) -> Result<Items<Col>, Memory>
+    ensures { IfOk result (λ columns. columns ≡ unwrap_or named (columns_of table)) }
 {
-    if named.is_empty() {
-        return all_columns(alloc, table);
+    match named {
+        Some(columns) => Ok(columns),
+        None => all_columns(alloc, table),
     }
-    Ok(named)
 }
 
 fn all_columns(alloc: Global, table: Table) -> Result<Items<Col>, Memory>

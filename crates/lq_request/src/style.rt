@@ -5,16 +5,18 @@ ghost use Rattle.lq_request.specs.Style.{is_colon, keep_of, keep_of_lines, style
 use lq_text::{next_line, trim};
 
 /// How the reply to a message is given, and what becomes of the connection.
-#[derive(Clone, Copy, PartialEq, Eq)]
+#[derive(Clone, Copy)]
 pub struct Style {
-    /// Whether a line of 16 bytes with the code and the length comes first. It is always false so far.
+    /// Whether a line of 16 bytes with the code and the length comes first. It is always false so
+    /// far.
     pub fixed16: bool,
     /// Whether the connection goes on.
     pub keep: bool,
 }
 
-/// The style that a message asks for, also a refused or a too long one: the last line `KeepAlive: on`
-/// or `KeepAlive: off` among all of its lines decides `keep`, which is false without one.
+/// The style that a message asks for, also a refused or a too long one: the last line
+/// `KeepAlive: on` or `KeepAlive: off` among all of its lines decides `keep`, which is false
+/// without one.
 #[tactic(auto, unfolding(crate::specs::Style::style_of))]
 pub fn reply_style(b: &[u8]) -> Style
     ensures { result ≡ style_of b.now }

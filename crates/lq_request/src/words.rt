@@ -3,7 +3,7 @@ ghost use Rattle.std.specs.Str.{IsUtf8, is_utf8};
 ghost use Rattle.lq_text.specs.Blanks.{words_of};
 ghost use Rattle.lq_request.specs.Words.{texts};
 
-use lq_records::{Memory, Text};
+use lq_records::Memory;
 use lq_text::is_blank;
 use std::alloc::Global;
 use std::str;
@@ -36,12 +36,4 @@ pub fn as_text(word: &[u8]) -> &str
         Ok(text) => text,
         Err(_) => unreachable!(),
     }
-}
-
-/// A copy of a word of a text.
-pub fn copy_of(alloc: Global, word: &[u8]) -> Result<Text, Memory>
-    requires { IsUtf8 word.now }
-    ensures { IfOk result (λ copy. copy ≡ word.now) }
-{
-    Text::new(alloc, as_text(word))
 }

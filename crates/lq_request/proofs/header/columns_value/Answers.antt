@@ -1,6 +1,7 @@
 use Rattle.std.proofs.Common.{map, ap, ◌∙◌}
+use Rattle.lq_text.specs.Blanks.{words_of}
 use Rattle.lq_request.proofs.TextLemmas.{borrowed_utf8}
 use Rattle.lq_request.proofs.header.columns_value.Goals as goal
 
 pub columns_of_words-requires : goal.columns_of_words-requires
-columns_of_words-requires c = borrowed_utf8 _ c.args.value.now (ap (map (λ word. word.now)) c.deref.ensures.value ∙ c.in_ok-words.ensures) c.requires.value
+columns_of_words-requires c = borrowed_utf8 _ c.args.value.now (ap (map (λ word. word.now)) c.deref.ensures.value ∙ c.in_ok-words.ensures ∙ ap words_of c.as_bytes.ensures.value) c.utf8.value
