@@ -1,8 +1,9 @@
 -- What the places of the first message show.
-use Rattle.std.proofs.Common.{◌≡◌, ℕ, ◌+◌, ◌-◌, ◌<◌, ◌≤◌, Bool, true, false, List, [], length, take, drop, refl, sym, ap, ◌∙◌, subst, arith, length-take}
-use Rattle.std.proofs.lemmas.List.{drop-drop, drop-take}
+use Rattle.std.proofs.Common.{◌≡◌, ℕ, ◌+◌, ◌-◌, ◌<◌, ◌≤◌, Bool, true, false, List, [], ◌++◌, length, take, drop, refl, sym, ap, ◌∙◌, subst, arith, length-take}
+use Rattle.std.proofs.lemmas.List.{drop-append-le, drop-drop, drop-take, take-append-le}
 use Rattle.std.proofs.lemmas.Grind.{common_steps}
 use Rattle.lq_request.specs.Messages.{Message, behind, first_piece, IsFirst, IsNext, Piece, More, rest_behind, whole}
+use Rattle.lq_request.specs.Search.{IsSearched}
 use Rattle.lq_request.specs.Extent.{IsExtent}
 use Rattle.lq_request.specs.Cutting.{Shows, IsWithin, found_piece, taken_by}
 use Rattle.lq_request.specs.declared.extent.Extent.{Extent}
@@ -11,7 +12,7 @@ use Rattle.lq_request.specs.declared.extent.MessageKind.TheVariants as message
 use Rattle.lq_request.specs.declared.cut.Found.{Found}
 use Rattle.lq_request.specs.declared.cut.Found.TheVariants as found
 use Rattle.lq_request.specs.declared.cut.TheConstants.{MESSAGE_LIMIT}
-use Rattle.lq_request.proofs.ListLemmas.{part_of_front, take_front}
+use Rattle.lq_request.proofs.ListLemmas.{part_of_front, take_front, take_whole}
 use Rattle.lq_request.proofs.MessageLemmas.{message_kind}
 use Rattle.lq_request.proofs.PieceLemmas.{window_message, piece_ended, piece_long, piece_more, piece_last, first_ended, first_long, first_last}
 
@@ -140,6 +141,30 @@ taken_within bytes (found.Message extent) within = within.2
 taken_within bytes found.TooLong within = within
 taken_within bytes found.More within = omega arith
 
+-- what a loan of the buffer leaves in it
+pub written : (n : ℕ) (new old : List ℕ) → length new ≡ n → take n (new ++ drop (length new) old) ≡ new
+written n new old size = take-append-le n new (drop (length new) old) (omega (arith, size)) ∙ take_whole n new (omega (arith, size))
+
+-- what is held with a piece behind it, which may have moved before
+pub fed : (buffer moved filled piece : List ℕ) (start from held : ℕ) → take held (drop from moved) ≡ take held (drop start buffer)
+    → take (from + held + length piece) filled ≡ take (from + held) moved ++ piece → from + held ≤ length moved
+    → take (from + held + length piece - from) (drop from filled) ≡ take held (drop start buffer) ++ piece
+fed buffer moved filled piece start from held same put low =
+    let size : from + (held + length piece) ≡ from + held + length piece = omega arith in
+    let count : from + held + length piece - from ≡ held + length piece = omega arith in
+    let inside : from ≤ length (take (from + held) moved) = omega (arith, length-take (from + held) moved, low) in
+    ap (λ n. take n (drop from filled)) count ∙ sym (drop-take from (held + length piece) filled) ∙ ap (λ n. drop from (take n filled)) size
+    ∙ ap (drop from) put ∙ drop-append-le from (take (from + held) moved) piece inside ∙ ap (λ front. front ++ piece) (drop-take from held moved ∙ same)
+
+-- the same of the buffer, by what its loans were: `given` is the second of them
+pub fed_view : (n : ℕ) (items now moved given filled piece : List ℕ) (start from held : ℕ) → now ≡ items → length moved ≡ n → given ≡ take n (moved ++ drop (length moved) items)
+    → take held (drop from moved) ≡ take held (drop start now) → length filled ≡ n → take (from + held + length piece) filled ≡ take (from + held) given ++ piece → from + held ≤ n
+    → take (from + held + length piece - from) (drop from (take n (filled ++ drop (length filled) (take n (moved ++ drop (length moved) items))))) ≡ take held (drop start items) ++ piece
+fed_view n items now moved given filled piece start from held first size second same full put low =
+    ap (λ b. take (from + held + length piece - from) (drop from b)) (written n filled _ full)
+    ∙ fed items moved filled piece start from held (same ∙ ap (λ b. take held (drop start b)) first)
+    (put ∙ ap (λ b. take (from + held) b ++ piece) (second ∙ written n moved items size)) (omega (arith, size, low))
+
 -- `held` is what the buffer has between two places, which contracts see as `now`
 module _ (ended : Bool) (buffer : List ℕ) (start end : ℕ) (held now : List ℕ) (inside : held ≡ take (end - start) (drop start buffer)) (view : take (end - start) (drop start buffer) ≡ now) where
   pub next_of : (place : Found) → Shows ended held place → IsNext ended now (found_piece now place)
@@ -151,6 +176,20 @@ module _ (ended : Bool) (buffer : List ℕ) (start end : ℕ) (held now : List �
       let small : taken_by place ≤ length (take (end - start) (drop start buffer)) = subst (λ bytes. taken_by place ≤ length bytes) inside (taken_within held place shows.within) in
       ap (λ n. take (end - (start + n)) (drop (start + n) buffer)) is ∙ held_behind buffer start end (taken_by place) small
       ∙ ap (drop (taken_by place)) view ∙ sym (subst (λ bytes. rest_behind (found_piece bytes place) bytes ≡ drop (taken_by place) bytes) (inside ∙ view) shows.rest)
+
+  -- what is left, and how far it was looked over
+  pub left_within : (place : Found) (taken : ℕ) → taken ≡ taken_by place → IsWithin held place → start ≤ end → start + taken ≤ end
+  left_within place taken is within order =
+      let small : taken_by place ≤ length (take (end - start) (drop start buffer)) = subst (λ bytes. taken_by place ≤ length bytes) inside (taken_within held place within) in
+      omega (arith, is, small, length-take (end - start) (drop start buffer), order)
+
+  pub left_searched : (place : Found) (taken text next : ℕ) → taken ≡ taken_by place → IsWithin held place → IsSearched text next (drop (taken_by place) held)
+      → IsSearched text next (take (end - (start + taken)) (drop (start + taken) buffer))
+  left_searched place taken text next is within searched =
+      let small : taken_by place ≤ length (take (end - start) (drop start buffer)) = subst (λ bytes. taken_by place ≤ length bytes) inside (taken_within held place within) in
+      subst (IsSearched text next)
+      (sym (ap (λ n. take (end - (start + n)) (drop (start + n) buffer)) is ∙ held_behind buffer start end (taken_by place) small ∙ ap (drop (taken_by place)) (sym inside)))
+      searched
 
   pub part_of : (items : List ℕ) (from to : ℕ) → items ≡ buffer → from ≤ to → to ≤ length held
       → take (start + to - (start + from)) (drop (start + from) items) ≡ take (to - from) (drop from now)

@@ -13,7 +13,7 @@ use Rattle.lq_request.proofs.FrontLemmas.{text_at}
 use Rattle.lq_request.proofs.MessageLemmas.{message_command}
 
 -- a line has its line feed where its text is shorter
-feed_shorter : (line : List ℕ) → has_feed line ≡ nat_lt (length (line_text line)) (length line)
+pub feed_shorter : (line : List ℕ) → has_feed line ≡ nat_lt (length (line_text line)) (length line)
 feed_shorter [] = refl
 feed_shorter (byte ∷ bytes) =
     let line : List ℕ = byte ∷ bytes in

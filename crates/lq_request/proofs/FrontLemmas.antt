@@ -29,7 +29,7 @@ text_length_at bytes at end next line =
     ap length (text_at bytes at end next line) ∙ grind (arith, common_steps, line.order, line.within, line.text)
 
 -- up to a place, and from there to a later one
-take_parts : (bytes : List ℕ) (i j : ℕ) → i ≤ j → take j bytes ≡ take i bytes ++ take (j - i) (drop i bytes)
+pub take_parts : (bytes : List ℕ) (i j : ℕ) → i ≤ j → take j bytes ≡ take i bytes ++ take (j - i) (drop i bytes)
 take_parts bytes i j low =
     let whole : i + (j - i) ≡ j = omega arith in
     let back : drop i (take j bytes) ≡ take (j - i) (drop i bytes) = ap (λ n. drop i (take n bytes)) (sym whole) ∙ drop-take i (j - i) bytes in

@@ -3,6 +3,7 @@ pub mod FrontLemmas
 pub mod MessageLemmas
 pub mod ExtentLemmas
 pub mod PieceLemmas
+pub mod SearchLemmas
 pub mod CutLemmas
 pub mod OrderLemmas
 pub mod TextLemmas

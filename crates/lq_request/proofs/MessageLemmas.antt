@@ -36,7 +36,7 @@ first_line_of bytes more has = whole_lines-append bytes more (feed_place bytes) 
     (λ k low is. eqb-false _ _ (fails_before_first (λ byte. byte == 10) bytes k 0 low) is)
     (eqb-true _ _ (passes_at_first (λ byte. byte == 10) bytes 0 has.within))
 
-first_line_alone : (bytes : List ℕ) → HasFeed bytes → whole_lines bytes ≡ take (feed_place bytes + 1) bytes ∷ whole_lines (drop (feed_place bytes + 1) bytes)
+pub first_line_alone : (bytes : List ℕ) → HasFeed bytes → whole_lines bytes ≡ take (feed_place bytes + 1) bytes ∷ whole_lines (drop (feed_place bytes + 1) bytes)
 first_line_alone bytes has = ap whole_lines (sym (append-nil bytes)) ∙ first_line_of bytes [] has
     ∙ ap (λ rest. take (feed_place bytes + 1) bytes ∷ whole_lines rest) (append-nil (drop (feed_place bytes + 1) bytes))
 
@@ -114,7 +114,7 @@ within_of : (k : ℕ) (bytes : List ℕ) → HasFeed (drop k bytes) → k ≤ le
 within_of k bytes has = let within : feed_place (drop k bytes) < length (drop k bytes) = has.within in omega (arith, length-drop k bytes)
 
 -- a first line with its line feed
-line_has_feed : (bytes line : List ℕ) (lines : List (List ℕ)) → whole_lines bytes ≡ line ∷ lines → has_feed line ≡ true → HasFeed bytes
+pub line_has_feed : (bytes line : List ℕ) (lines : List (List ℕ)) → whole_lines bytes ≡ line ∷ lines → has_feed line ≡ true → HasFeed bytes
 line_has_feed [] line lines whole is = absurd (cc)
 line_has_feed (byte ∷ bytes) line lines whole is =
     let all : List ℕ = byte ∷ bytes in

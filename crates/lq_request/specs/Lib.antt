@@ -1,4 +1,5 @@
 pub mod Messages
+pub mod Search
 pub mod Extent
 pub mod Cutting
 pub mod Words

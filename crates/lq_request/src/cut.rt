@@ -1,9 +1,10 @@
 ghost use Rattle.std.specs.Prelude.{◌≡◌, ◌≢◌, ℕ, ◌+◌, ◌-◌, ◌<◌, ◌≤◌, List, [], ◌++◌, length, take, drop, false, vec_len, IfOk};
 ghost use Rattle.lq_request.specs.Cutting.{shown, Shows, taken_by};
+ghost use Rattle.lq_request.specs.Search.{IsSearched};
 ghost use Rattle.lq_request.specs.Messages.{IsInOrder, IsNext, rest_behind, whole};
 ghost use Rattle.lq_request.specs.declared.cut.TheConstants.{CAPACITY, MESSAGE_LIMIT};
 
-use crate::extent::{Extent, MessageKind, extent_of};
+use crate::extent::{Extent, MessageKind, Searched};
 use lq_records::Memory;
 use std::alloc::Global;
 use std::marker::Model;
@@ -37,18 +38,22 @@ pub struct Cut {
     buffer: Vec<u8>,
     start: usize,
     end: usize,
+    searched: Searched,
 }
 
 impl Model for Cut {
     ghost use Rattle.std.specs.Prelude.{◌≡◌, ◌-◌, ◌≤◌, ℕ, List, take, drop, vec_len};
-    ghost use Rattle.lq_request.specs.declared.cut.TheConstants.{CAPACITY};
+    ghost use Rattle.lq_request.specs.Search.{IsSearched};
+    ghost use Rattle.lq_request.specs.declared.cut.TheConstants.{CAPACITY, MESSAGE_LIMIT};
 
     ghost Value = { List ℕ };
 
     ghost view = { λ cut. take (cut.end - cut.start) (drop cut.start cut.buffer.items) };
 
     ghost invariant = { λ cut. (cut.start ≤ cut.end) × (cut.end ≤ CAPACITY)
-        × (vec_len cut.buffer ≡ CAPACITY) };
+        × (vec_len cut.buffer ≡ CAPACITY) × (cut.searched.next ≤ MESSAGE_LIMIT)
+        × IsSearched cut.searched.text cut.searched.next
+        (take (cut.end - cut.start) (drop cut.start cut.buffer.items)) };
 }
 
 impl Cut {
@@ -66,6 +71,7 @@ impl Cut {
             buffer: vec![in alloc; 0; CAPACITY]?,
             start: 0,
             end: 0,
+            searched: Searched::nothing(),
         })
     }
 
@@ -82,10 +88,10 @@ impl Cut {
         ensures { self.new ≡ self.old ++ piece.now }
     {
         let held = self.end - self.start;
-        move_front(&mut self.buffer, self.start, held);
-        put_behind(&mut self.buffer, held, piece);
-        self.start = 0;
-        self.end = held + piece.len();
+        self.start = make_room(&mut self.buffer, self.start, held, piece.len());
+        self.end = self.start + held;
+        put(&mut self.buffer, self.end, piece);
+        self.end += piece.len();
     }
 
     fn held(&self) -> &[u8]
@@ -103,9 +109,11 @@ impl Cut {
         ensures* rest { sem 𝓛 (follows_so the_row the_row self.entry.ghost_name none (λ _ _. ⊤)
             (λ held. held ≡ rest_behind (shown result) self.old)) }
     {
-        let found = find(self.held(), ended);
+        let mut searched = self.searched;
+        let found = find(&mut searched, self.held(), ended);
         let start = self.start;
         self.start = start + found.taken();
+        self.searched = searched;
         match found {
             Found::Message(extent) => message(
                 extent.kind,
@@ -149,15 +157,24 @@ impl Found {
     }
 }
 
-fn find(held: &[u8], ended: bool) -> Found
-    ensures { Shows ended held.now result }
+/// What stands first in the bytes that are held, and how far what is behind it was looked over.
+fn find(searched: &mut Searched, held: &[u8], ended: bool) -> Found
+    requires searched { IsSearched searched.old.text searched.old.next held.now }
+    requires limit { searched.old.next ≤ MESSAGE_LIMIT }
+    ensures shows { Shows ended held.now result }
+    ensures searched { IsSearched searched.new.text searched.new.next
+        (drop (taken_by result) held.now) }
+    ensures limit { searched.new.next ≤ MESSAGE_LIMIT }
 {
-    let extent = extent_of(window(held));
+    let mut further = *searched;
+    let extent = further.extent_of(window(held));
+    *searched = Searched::nothing();
     if extent.end < extent.next {
         Found::Message(extent)
     } else if held.len() > MESSAGE_LIMIT {
         Found::TooLong
     } else if !ended {
+        *searched = further;
         Found::More
     } else {
         Found::Message(Extent {
@@ -167,20 +184,27 @@ fn find(held: &[u8], ended: bool) -> Found
     }
 }
 
-/// Moves `held` bytes from the place `start` to the front.
-fn move_front(buffer: &mut [u8], start: usize, held: usize)
-    requires { start + held ≤ length buffer.old }
-    ensures held { take held buffer.new ≡ take held (drop start buffer.old) }
+/// Makes room for `more` bytes behind those that are held, which begin at the place `start`: they
+/// move to the front where it is wanting. Returns the place where they begin then.
+fn make_room(buffer: &mut [u8], start: usize, held: usize, more: usize) -> usize
+    requires within { start + held ≤ length buffer.old }
+    requires enough { held + more ≤ length buffer.old }
+    ensures held { take held (drop result buffer.new) ≡ take held (drop start buffer.old) }
+    ensures room { result + held + more ≤ length buffer.new }
 {
+    if start + held + more <= buffer.len() {
+        return start;
+    }
     buffer.copy_within(start..start + held, 0);
+    0
 }
 
-/// Puts a piece after the first `held` bytes.
-fn put_behind(buffer: &mut [u8], held: usize, piece: &[u8])
-    requires { held + length piece.now ≤ length buffer.old }
-    ensures held { take (held + length piece.now) buffer.new ≡ take held buffer.old ++ piece.now }
+/// Puts a piece at a place.
+fn put(buffer: &mut [u8], at: usize, piece: &[u8])
+    requires { at + length piece.now ≤ length buffer.old }
+    ensures { take (at + length piece.now) buffer.new ≡ take at buffer.old ++ piece.now }
 {
-    buffer[held..held + piece.len()].copy_from_slice(piece);
+    buffer[at..at + piece.len()].copy_from_slice(piece);
 }
 
 /// The bytes within which a message has to end.

@@ -2,9 +2,10 @@ ghost use Rattle.std.specs.Prelude.{◌≡◌, ℕ, ◌+◌, ◌<◌, ◌≤◌,
 ghost use Rattle.std.specs.List.{prefix_len};
 ghost use Rattle.lq_text.specs.Blanks.{is_blank};
 ghost use Rattle.lq_text.specs.Lines.{line_text};
-ghost use Rattle.lq_request.specs.Messages.{command_text, ends_word, front_lines, is_command, is_line_of, one_empty_line, query_from};
-ghost use Rattle.lq_request.specs.Extent.{IsExtent, IsExtentOf};
-ghost use Rattle.lq_request.specs.declared.extent.LineKind.TheVariants as kind;
+ghost use Rattle.lq_request.specs.Messages.{command_text, ends_word, front_lines, is_command, is_line_of, one_empty_line};
+ghost use Rattle.lq_request.specs.Extent.{IsExtent};
+ghost use Rattle.lq_request.specs.Search.{AreLines, IsSearched};
+ghost use Rattle.lq_request.specs.declared.extent.LineKind.TheVariants as line_kind;
 
 use lq_text::{is_blank, next_line};
 
@@ -42,45 +43,93 @@ enum LineKind {
     Text,
 }
 
-/// The first message of the bytes.
-#[tactic(auto, unfolding(crate::specs::Messages::message_of))]
-pub fn extent_of(bytes: &[u8]) -> Extent
-    ensures { IsExtent bytes.now result }
-{
-    let start = front_length(bytes, LineKind::Empty);
-    let Some((end, next)) = next_line(bytes, start) else {
-        return Extent {
-            kind: MessageKind::Nothing,
-            start,
-            end: start,
-            next: start,
+/// How far bytes were looked over: they are empty lines up to `text`, and from there on whole lines
+/// of a query up to `next`.
+#[derive(Clone, Copy)]
+pub struct Searched {
+    pub text: usize,
+    pub next: usize,
+}
+
+impl Searched {
+    /// Nothing was looked over yet.
+    pub fn nothing() -> Self
+        ensures text { result.text ≡ 0 }
+        ensures next { result.next ≡ 0 }
+    {
+        Searched { text: 0, next: 0 }
+    }
+
+    /// The first message of the bytes. What was looked over before isn't looked at again.
+    #[tactic(auto, unfolding(crate::specs::Messages::message_of))]
+    pub fn extent_of(&mut self, bytes: &[u8]) -> Extent
+        requires { IsSearched self.old.text self.old.next bytes.now }
+        ensures extent { IsExtent bytes.now result }
+        ensures searched { IsSearched self.new.text self.new.next bytes.now }
+    {
+        if self.text < self.next {
+            return self.query(bytes);
+        }
+        let start = empty_lines_end(bytes, self.next);
+        self.text = start;
+        self.next = start;
+        let Some((end, next)) = next_line(bytes, start) else {
+            return Extent {
+                kind: MessageKind::Nothing,
+                start,
+                end: start,
+                next: start,
+            };
         };
-    };
-    match command_length(&bytes[start..end]) {
-        Some(length) => Extent {
-            kind: MessageKind::Command,
-            start: start + length,
+        if let Some(length) = command_length(&bytes[start..end]) {
+            return Extent {
+                kind: MessageKind::Command,
+                start: start + length,
+                end,
+                next,
+            };
+        }
+        if end == next {
+            return Extent {
+                kind: MessageKind::Query,
+                start,
+                end,
+                next,
+            };
+        }
+        self.next = next;
+        self.query(bytes)
+    }
+
+    /// The query whose first lines were looked over.
+    fn query(&mut self, bytes: &[u8]) -> Extent
+        requires some { self.old.text < self.old.next }
+        requires searched { IsSearched self.old.text self.old.next bytes.now }
+        ensures extent { IsExtent bytes.now result }
+        ensures searched { IsSearched self.new.text self.new.next bytes.now }
+    {
+        let front = front_length(&bytes[self.next..], LineKind::Text);
+        let end = self.next + front.all;
+        let next = end + empty_line_length(&bytes[end..]);
+        self.next += front.whole;
+        Extent {
+            kind: MessageKind::Query,
+            start: self.text,
             end,
             next,
-        },
-        None => query_at(bytes, start),
+        }
     }
 }
 
-/// The query whose lines begin at a place.
-fn query_at(bytes: &[u8], start: usize) -> Extent
-    requires { start ≤ length bytes.now }
-    ensures { IsExtentOf (query_from start (front_lines kind.Text (drop start bytes.now)) bytes.now)
-        bytes.now result }
+/// The place where the empty lines at the front end; they go on up to the place `from` at least.
+fn empty_lines_end(bytes: &[u8], from: usize) -> usize
+    requires within { from ≤ length bytes.now }
+    requires lines { AreLines line_kind.Empty (take from bytes.now) }
+    ensures within { result ≤ length bytes.now }
+    ensures lines { AreLines line_kind.Empty (take result bytes.now) }
+    ensures front { front_lines line_kind.Empty bytes.now ≡ take result bytes.now }
 {
-    let end = start + front_length(&bytes[start..], LineKind::Text);
-    let next = end + empty_line_length(&bytes[end..]);
-    Extent {
-        kind: MessageKind::Query,
-        start,
-        end,
-        next,
-    }
+    from + front_length(&bytes[from..], LineKind::Empty).all
 }
 
 /// The length of `COMMAND` and its blanks at the front of a line. None where the line is no
@@ -121,19 +170,35 @@ fn blank_length(bytes: &[u8]) -> usize
     at
 }
 
-/// The length of the lines of a kind at the front of the bytes.
-fn front_length(bytes: &[u8], kind: LineKind) -> usize
-    ensures front { front_lines kind bytes.now ≡ take result bytes.now }
-    ensures within { result ≤ length bytes.now }
+/// The lines of a kind at the front of bytes, by their length: those with a line feed, and all.
+#[derive(Clone, Copy)]
+struct Front {
+    whole: usize,
+    all: usize,
+}
+
+/// The lines of a kind at the front of the bytes. Only a line with text can lack its line feed.
+fn front_length(bytes: &[u8], kind: LineKind) -> Front
+    ensures whole { AreLines kind (take result.whole bytes.now) }
+    ensures front { front_lines kind bytes.now ≡ take result.all bytes.now }
+    ensures order { result.whole ≤ result.all }
+    ensures within { result.all ≤ length bytes.now }
+    ensures empty { kind ≡ line_kind.Empty → result.whole ≡ result.all }
 {
     let mut at = 0;
     'lines: while let Some((end, next)) = next_line(bytes, at) {
         if !is_of_kind(kind, end - at) {
-            return at;
+            return Front { whole: at, all: at };
+        }
+        if end == next {
+            return Front {
+                whole: at,
+                all: next,
+            };
         }
         at = next;
     }
-    at
+    Front { whole: at, all: at }
 }
 
 /// Whether a line whose text has this length is of a kind.

@@ -1,0 +1,26 @@
+-- How far the bytes of a message were looked over, so that a later search goes on from there.
+use Rattle.std.specs.Prelude.{◌≡◌, ℕ, ◌-◌, ◌<◌, ◌≤◌, Bool, false, List, [], ◌∷◌, ◌++◌, take, drop, length}
+use Rattle.lq_text.specs.Lines.{whole_lines, line_text}
+use Rattle.lq_request.specs.declared.extent.LineKind.{LineKind}
+use Rattle.lq_request.specs.declared.extent.LineKind.TheVariants as kind
+use Rattle.lq_request.specs.Messages.{front_lines, is_command}
+
+-- the bytes are lines of a kind, each with its line feed, whatever follows them
+abbrev pub AreLines : LineKind → List ℕ → Type 0
+AreLines kind lines =
+    (rest : List ℕ) → front_lines kind (lines ++ rest) ≡ lines ++ front_lines kind rest
+
+-- whether the first line is a command's
+abbrev pub begins_command : List (List ℕ) → Bool
+begins_command [] = false
+begins_command (line ∷ lines) = is_command (line_text line)
+
+-- The bytes up to the place `next` were looked over: they are empty lines up to the place `text`,
+-- and from there on the first lines of a query.
+pub record IsSearched (text next : ℕ) (bytes : List ℕ) : Type 0 where
+  pub order : text ≤ next
+  pub within : next ≤ length bytes
+  pub empty : AreLines kind.Empty (take text bytes)
+  pub lines : AreLines kind.Text (take (next - text) (drop text bytes))
+  pub query : text < next → (rest : List ℕ)
+      → begins_command (whole_lines (take (next - text) (drop text bytes) ++ rest)) ≡ false
