@@ -2,8 +2,8 @@
 use Rattle.std.proofs.Common.{◌≡◌, ℕ, ◌+◌, ◌-◌, ◌<◌, ◌≤◌, Bool, true, false, List, [], ◌++◌, length, take, drop, refl, sym, ap, ◌∙◌, subst, arith, length-take}
 use Rattle.std.proofs.lemmas.List.{drop-append-le, drop-drop, drop-take, take-append-le}
 use Rattle.std.proofs.lemmas.Grind.{common_steps}
-use Rattle.lq_request.specs.Messages.{Message, behind, first_piece, IsFirst, IsNext, Piece, More, rest_behind, whole}
-use Rattle.lq_request.specs.Search.{IsSearched}
+use Rattle.lq_request.specs.Messages.{Message, message_of, behind, first_piece, IsFirst, IsNext, Piece, More, rest_behind, whole}
+use Rattle.lq_request.specs.Search.{IsKnown}
 use Rattle.lq_request.specs.Extent.{IsExtent}
 use Rattle.lq_request.specs.Cutting.{Shows, IsWithin, found_piece, taken_by}
 use Rattle.lq_request.specs.declared.extent.Extent.{Extent}
@@ -40,6 +40,23 @@ drop_all : (bytes : List ℕ) → drop (length bytes) bytes ≡ []
 drop_all bytes = grind (arith, common_steps)
 
 -- ---- what the places show
+
+-- more bytes are wanted where no message has ended
+pub shows_unended : (ended : Bool) (bytes : List ℕ) → (window_message bytes).ended ≡ false → length bytes ≤ MESSAGE_LIMIT → ended ≡ false → Shows ended bytes found.More
+unfolding first_piece
+shows_unended ended bytes unended short open' = record {
+  next = record {
+    is = sym (piece_more ended bytes (window_message bytes) unended short open');
+    first = λ other. absurd (other refl);
+    more = λ _. (open', short);
+  };
+  rest = refl;
+  within = short;
+}
+
+pub shows_unfed : (ended : Bool) (bytes : List ℕ) → (message_of bytes).ended ≡ false → length bytes ≤ MESSAGE_LIMIT → ended ≡ false → Shows ended bytes found.More
+shows_unfed ended bytes unended short open' =
+    shows_unended ended bytes (ap (λ b. (message_of b).ended) (take_whole MESSAGE_LIMIT bytes short) ∙ unended) short open'
 
 module _ (ended : Bool) (bytes : List ℕ) (extent : Extent) (is : IsExtent (take MESSAGE_LIMIT bytes) extent) where
   window_length : length (take MESSAGE_LIMIT bytes) ≤ length bytes × length (take MESSAGE_LIMIT bytes) ≤ MESSAGE_LIMIT
@@ -89,16 +106,7 @@ module _ (ended : Bool) (bytes : List ℕ) (extent : Extent) (is : IsExtent (tak
   }
 
   pub shows_more : extent.next ≤ extent.end → length bytes ≤ MESSAGE_LIMIT → ended ≡ false → Shows ended bytes found.More
-  unfolding first_piece
-  shows_more high short open' = record {
-    next = record {
-      is = sym (piece_more ended bytes (window_message bytes) (not_ended high) short open');
-      first = λ other. absurd (other refl);
-      more = λ _. (open', short);
-    };
-    rest = refl;
-    within = short;
-  }
+  shows_more high short open' = shows_unended ended bytes (not_ended high) short open'
 
   last_of : (piece : Piece) → extent.next ≤ extent.end → length bytes ≤ MESSAGE_LIMIT → ended ≡ true → first_piece ended bytes ≡ piece → IsFirst piece ended bytes
   unfolding first_piece
@@ -183,13 +191,13 @@ module _ (ended : Bool) (buffer : List ℕ) (start end : ℕ) (held now : List �
       let small : taken_by place ≤ length (take (end - start) (drop start buffer)) = subst (λ bytes. taken_by place ≤ length bytes) inside (taken_within held place within) in
       omega (arith, is, small, length-take (end - start) (drop start buffer), order)
 
-  pub left_searched : (place : Found) (taken text next : ℕ) → taken ≡ taken_by place → IsWithin held place → IsSearched text next (drop (taken_by place) held)
-      → IsSearched text next (take (end - (start + taken)) (drop (start + taken) buffer))
-  left_searched place taken text next is within searched =
+  pub left_known : (place : Found) (taken text next seen : ℕ) → taken ≡ taken_by place → IsWithin held place → IsKnown text next seen (drop (taken_by place) held)
+      → IsKnown text next seen (take (end - (start + taken)) (drop (start + taken) buffer))
+  left_known place taken text next seen is within known =
       let small : taken_by place ≤ length (take (end - start) (drop start buffer)) = subst (λ bytes. taken_by place ≤ length bytes) inside (taken_within held place within) in
-      subst (IsSearched text next)
+      subst (IsKnown text next seen)
       (sym (ap (λ n. take (end - (start + n)) (drop (start + n) buffer)) is ∙ held_behind buffer start end (taken_by place) small ∙ ap (drop (taken_by place)) (sym inside)))
-      searched
+      known
 
   pub part_of : (items : List ℕ) (from to : ℕ) → items ≡ buffer → from ≤ to → to ≤ length held
       → take (start + to - (start + from)) (drop (start + from) items) ≡ take (to - from) (drop from now)

@@ -137,11 +137,11 @@ pub message_query : (before : ℕ) (line : List ℕ) (lines : List (List ℕ)) (
 message_query before line lines bytes is = rw is refl
 
 -- the end of a query is behind a line feed
-query_feed : (before : ℕ) (text bytes : List ℕ) → (query_from before text bytes).ended ≡ true → HasFeed (drop (length text) (drop before bytes))
+pub query_feed : (before : ℕ) (text bytes : List ℕ) → (query_from before text bytes).ended ≡ true → HasFeed (drop (length text) (drop before bytes))
 query_feed before text bytes ended = subst HasFeed (sym (drop-drop (length text) before bytes)) (empty_line_has_feed _ (ltb-true _ _ ended))
 
 -- a message that has ended has a line feed
-ended_feed : (before : ℕ) (bytes : List ℕ) (lines : List (List ℕ)) → whole_lines (drop before bytes) ≡ lines
+pub ended_feed : (before : ℕ) (bytes : List ℕ) (lines : List (List ℕ)) → whole_lines (drop before bytes) ≡ lines
     → (message_at before lines bytes).ended ≡ true → HasFeed (drop before bytes)
 ended_feed before bytes [] whole ended = absurd (cc)
 ended_feed before bytes (line ∷ lines) whole ended = ⊎_elim

@@ -9,14 +9,14 @@ use Rattle.std.proofs.lemmas.Grind.{common_steps}
 use Rattle.lq_text.specs.Lines.{IsLineAt, line_text, whole_lines}
 use Rattle.lq_text.proofs.LineLemmas.{whole_lines-append, whole_to_end}
 use Rattle.lq_request.specs.Messages.{front_lines, is_command, is_line_of, message_at, message_of, one_empty_line, query_from, has_feed}
-use Rattle.lq_request.specs.Search.{AreLines, begins_command, IsSearched}
+use Rattle.lq_request.specs.Search.{AreLines, begins_command, IsKnown, IsSearched}
 use Rattle.lq_request.specs.Extent.{IsExtentOf}
 use Rattle.lq_request.specs.declared.extent.LineKind.{LineKind}
 use Rattle.lq_request.specs.declared.extent.LineKind.TheVariants as kind
 use Rattle.lq_request.specs.declared.extent.MessageKind.TheVariants as message
 use Rattle.lq_request.proofs.FrontLemmas.{fails_first, front_next, front_stop, passes_first, take_parts, text_at, text_length_at}
 use Rattle.lq_request.proofs.ExtentLemmas.{feed_shorter}
-use Rattle.lq_request.proofs.MessageLemmas.{feed_place, first_line_alone, line_has_feed, message_query, HasFeed}
+use Rattle.lq_request.proofs.MessageLemmas.{ended_feed, feed_place, first_line_alone, line_has_feed, message_query, query_feed, HasFeed}
 
 -- ---- whole lines of a kind
 
@@ -77,9 +77,9 @@ module _ (bytes : List ℕ) (at end next : ℕ) (is : IsLineAt bytes at end next
   pub line_lines : (kind : LineKind) → end < next → is_line_of kind line ≡ true → AreLines kind line
   line_lines kind fed pass rest = ap (λ lines. concat (take_while (is_line_of kind) lines)) (single_line fed rest) ∙ passes_first kind _ _ pass
 
-  -- one without is the last one
-  pub last_line : end ≡ next → next ≡ length bytes
-  last_line same =
+  -- behind one without it no line feed stands
+  pub none_fed : end ≡ next → (k : ℕ) → k < length (drop at bytes) → slice_index (drop at bytes) k ≡ 10 → ⊥
+  none_fed same =
       let rest : List ℕ = drop at bytes in
       let lacks : has_feed line ≡ false = fed_is ∙ grind (arith, same) in
       ⊎_elim
@@ -91,14 +91,17 @@ module _ (bytes : List ℕ) (at end next : ℕ) (is : IsLineAt bytes at end next
       let place : slice_index line (length line - 1) ≡ slice_index rest (feed_place rest) = grind (arith, common_steps, own, size, low) in
       let here : slice_index rest (feed_place rest) ≡ 10 = eqb-true _ _ (passes_at_first (λ byte. byte == 10) rest 0 low) in
       absurd (eqb-false _ _ lacks (place ∙ here)))
-      (λ high.
-      let none : (k : ℕ) → k < length rest → slice_index rest k ≡ 10 → ⊥ =
-      λ k low here. eqb-false _ _ (fails_before_first (λ byte. byte == 10) rest k 0 (omega (arith, high, low))) here in
-      let alone : whole_lines rest ≡ rest ∷ [] = whole_to_end rest (omega (arith, length-drop at bytes, is.more, is.within)) none in
+      (λ high k low here. eqb-false _ _ (fails_before_first (λ byte. byte == 10) rest k 0 (omega (arith, high, low))) here)
+      (cases_lt (feed_place rest) (length rest))
+
+  -- and it is the last one
+  pub last_line : end ≡ next → next ≡ length bytes
+  last_line same =
+      let rest : List ℕ = drop at bytes in
+      let alone : whole_lines rest ≡ rest ∷ [] = whole_to_end rest (omega (arith, length-drop at bytes, is.more, is.within)) (none_fed same) in
       let both = sym is.whole ∙ alone in
       let own : line ≡ rest = cc in
-      omega (arith, ap length own, line_length, length-drop at bytes, is.more, is.within))
-      (cases_lt (feed_place rest) (length rest))
+      omega (arith, ap length own, line_length, length-drop at bytes, is.more, is.within)
 
   -- an empty line has its line feed
   pub empty_fed : is_line_of kind.Empty line ≡ true → end ≡ at
@@ -330,3 +333,87 @@ searched_query text next all closing bytes is some within front last low =
       behind = omega arith;
       within = omega (arith, low, length-drop (next + all) bytes, within);
     })
+
+-- ---- without a line feed
+
+index_behind : (n k : ℕ) (bytes : List ℕ) → slice_index (drop n bytes) k ≡ slice_index bytes (n + k)
+index_behind n k bytes = grind (arith, common_steps)
+
+-- where none stands behind what was looked over, no message has ended
+pub unfed_message : (text next : ℕ) (bytes : List ℕ) → IsSearched text next bytes → ((k : ℕ) → next ≤ k → k < length bytes → slice_index bytes k ≡ 10 → ⊥) → (message_of bytes).ended ≡ false
+unfolding message_of
+unfed_message text next bytes is none =
+    let no_feed : (n : ℕ) → next ≤ n → HasFeed (drop n bytes) → ⊥ = λ n low has.
+    let place : feed_place (drop n bytes) < length (drop n bytes) = has.within in
+    let here : slice_index (drop n bytes) (feed_place (drop n bytes)) ≡ 10 = eqb-true _ _ (passes_at_first (λ byte. byte == 10) (drop n bytes) 0 place) in
+    none (n + feed_place (drop n bytes)) (omega (arith, low)) (omega (arith, place, length-drop n bytes)) (sym (index_behind n _ bytes) ∙ here) in
+    let empty : ℕ = length (front_lines kind.Empty bytes) in
+    let before : text ≤ empty = omega (arith, ap length (front_behind kind.Empty bytes text is.empty), length-append (take text bytes) (front_lines kind.Empty (drop text bytes)), length-take text bytes, is.order, is.within) in
+    ⊎_elim
+    (λ (ended : (message_of bytes).ended ≡ true). absurd (⊎_elim
+    (λ (some : text < next).
+    let own : List ℕ = front_lines kind.Text (drop text bytes) in
+    let feed : HasFeed (drop (length own) (drop text bytes)) = query_feed text own bytes (ap (λ m. m.ended) (sym (searched_message text next bytes is some)) ∙ ended) in
+    let long : next ≤ text + length own =
+    omega (
+      arith,
+      ap length (front_behind kind.Text (drop text bytes) (next - text) is.lines),
+      length-append (take (next - text) (drop text bytes)) (front_lines kind.Text (drop (next - text) (drop text bytes))),
+      length-take (next - text) (drop text bytes),
+      length-drop text bytes,
+      is.order,
+      is.within,
+    ) in
+    no_feed (text + length own) long (subst HasFeed (drop-drop (length own) text bytes) feed))
+    (λ (none : next ≤ text). no_feed empty (omega (arith, none, before)) (ended_feed empty bytes (whole_lines (drop empty bytes)) refl ended))
+    (cases_lt text next)))
+    (λ open'. open')
+    (cases_Bool (message_of bytes).ended)
+
+pub known_searched : (text next : ℕ) (bytes : List ℕ) → IsSearched text next bytes → IsKnown text next next bytes
+known_searched text next bytes is = record {
+  searched = is;
+  order = omega arith;
+  within = is.within;
+  unfed = λ k low high here. omega (arith, low, high);
+}
+
+pub known_nothing : (bytes : List ℕ) → IsKnown 0 0 0 bytes
+known_nothing bytes = known_searched 0 0 bytes (searched_nothing bytes)
+
+pub known_append : (text next seen : ℕ) (bytes more : List ℕ) → IsKnown text next seen bytes → IsKnown text next seen (bytes ++ more)
+known_append text next seen bytes more is =
+    let within : seen ≤ length bytes = is.within in
+    record {
+      searched = searched_append text next bytes more is.searched;
+      order = is.order;
+      within = omega (arith, length-append bytes more, within);
+      unfed = λ k low high here. is.unfed k low high (let place : k < length bytes = omega (arith, high, within) in grind (arith, common_steps, place, here));
+    }
+
+-- no line feed up to the end
+known_unfed : (text next seen : ℕ) (bytes : List ℕ) → IsKnown text next seen bytes → ((k : ℕ) → k < length (drop seen bytes) → slice_index (drop seen bytes) k ≡ 10 → ⊥)
+    → (k : ℕ) → next ≤ k → k < length bytes → slice_index bytes k ≡ 10 → ⊥
+known_unfed text next seen bytes is none k low high here = ⊎_elim
+    (λ (seen_it : k < seen). is.unfed k low seen_it here)
+    (λ (behind : seen ≤ k).
+    let place : seen + (k - seen) ≡ k = omega (arith, behind) in
+    none (k - seen) (omega (arith, high, behind, length-drop seen bytes)) (index_behind seen (k - seen) bytes ∙ ap (slice_index bytes) place ∙ here))
+    (cases_lt k seen)
+
+pub known_all : (text next seen : ℕ) (bytes : List ℕ) → IsKnown text next seen bytes → seen ≡ length bytes → (message_of bytes).ended ≡ false
+known_all text next seen bytes is all = unfed_message text next bytes is.searched (λ k low high here. is.unfed k low (omega (arith, high, all)) here)
+
+pub known_line : (text next seen end last : ℕ) (bytes : List ℕ) → IsKnown text next seen bytes → IsLineAt bytes seen end last → end ≡ last → IsKnown text next last bytes
+known_line text next seen end last bytes is line same =
+    let none = known_unfed text next seen bytes is (none_fed bytes seen end last line same) in
+    record {
+      searched = is.searched;
+      order = omega (arith, is.order, line.more);
+      within = line.within;
+      unfed = λ k low high here. none k low (omega (arith, high, line.within)) here;
+    }
+
+pub unfed_line : (text next seen end last : ℕ) (bytes : List ℕ) → IsKnown text next seen bytes → IsLineAt bytes seen end last → end ≡ last → (message_of bytes).ended ≡ false
+unfed_line text next seen end last bytes is line same =
+    known_all text next last bytes (known_line text next seen end last bytes is line same) (last_line bytes seen end last line same)

@@ -1,5 +1,5 @@
 -- How far the bytes of a message were looked over, so that a later search goes on from there.
-use Rattle.std.specs.Prelude.{◌≡◌, ℕ, ◌-◌, ◌<◌, ◌≤◌, Bool, false, List, [], ◌∷◌, ◌++◌, take, drop, length}
+use Rattle.std.specs.Prelude.{◌≡◌, ◌≢◌, ℕ, ◌-◌, ◌<◌, ◌≤◌, Bool, false, List, [], ◌∷◌, ◌++◌, take, drop, length, slice_index}
 use Rattle.lq_text.specs.Lines.{whole_lines, line_text}
 use Rattle.lq_request.specs.declared.extent.LineKind.{LineKind}
 use Rattle.lq_request.specs.declared.extent.LineKind.TheVariants as kind
@@ -24,3 +24,10 @@ pub record IsSearched (text next : ℕ) (bytes : List ℕ) : Type 0 where
   pub lines : AreLines kind.Text (take (next - text) (drop text bytes))
   pub query : text < next → (rest : List ℕ)
       → begins_command (whole_lines (take (next - text) (drop text bytes) ++ rest)) ≡ false
+
+-- The same, and from the place `next` up to the place `seen` no line feed stands.
+pub record IsKnown (text next seen : ℕ) (bytes : List ℕ) : Type 0 where
+  pub searched : IsSearched text next bytes
+  pub order : next ≤ seen
+  pub within : seen ≤ length bytes
+  pub unfed : (k : ℕ) → next ≤ k → k < seen → slice_index bytes k ≢ 10

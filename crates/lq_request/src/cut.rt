@@ -1,6 +1,6 @@
 ghost use Rattle.std.specs.Prelude.{◌≡◌, ◌≢◌, ℕ, ◌+◌, ◌-◌, ◌<◌, ◌≤◌, List, [], ◌++◌, length, take, drop, false, vec_len, IfOk};
 ghost use Rattle.lq_request.specs.Cutting.{shown, Shows, taken_by};
-ghost use Rattle.lq_request.specs.Search.{IsSearched};
+ghost use Rattle.lq_request.specs.Search.{IsKnown, IsSearched};
 ghost use Rattle.lq_request.specs.Messages.{IsInOrder, IsNext, rest_behind, whole};
 ghost use Rattle.lq_request.specs.declared.cut.TheConstants.{CAPACITY, MESSAGE_LIMIT};
 
@@ -43,7 +43,7 @@ pub struct Cut {
 
 impl Model for Cut {
     ghost use Rattle.std.specs.Prelude.{◌≡◌, ◌-◌, ◌≤◌, ℕ, List, take, drop, vec_len};
-    ghost use Rattle.lq_request.specs.Search.{IsSearched};
+    ghost use Rattle.lq_request.specs.Search.{IsKnown};
     ghost use Rattle.lq_request.specs.declared.cut.TheConstants.{CAPACITY, MESSAGE_LIMIT};
 
     ghost Value = { List ℕ };
@@ -52,7 +52,7 @@ impl Model for Cut {
 
     ghost invariant = { λ cut. (cut.start ≤ cut.end) × (cut.end ≤ CAPACITY)
         × (vec_len cut.buffer ≡ CAPACITY) × (cut.searched.next ≤ MESSAGE_LIMIT)
-        × IsSearched cut.searched.text cut.searched.next
+        × IsKnown cut.searched.text cut.searched.next cut.searched.seen
         (take (cut.end - cut.start) (drop cut.start cut.buffer.items)) };
 }
 
@@ -110,7 +110,7 @@ impl Cut {
             (λ held. held ≡ rest_behind (shown result) self.old)) }
     {
         let mut searched = self.searched;
-        let found = find(&mut searched, self.held(), ended);
+        let found = first_found(&mut searched, self.held(), ended);
         let start = self.start;
         self.start = start + found.taken();
         self.searched = searched;
@@ -158,11 +158,30 @@ impl Found {
 }
 
 /// What stands first in the bytes that are held, and how far what is behind it was looked over.
+/// They are searched only where a line feed came, or where it is the last time.
+fn first_found(searched: &mut Searched, held: &[u8], ended: bool) -> Found
+    requires searched { IsKnown searched.old.text searched.old.next searched.old.seen held.now }
+    requires limit { searched.old.next ≤ MESSAGE_LIMIT }
+    ensures shows { Shows ended held.now result }
+    ensures searched { IsKnown searched.new.text searched.new.next searched.new.seen
+        (drop (taken_by result) held.now) }
+    ensures limit { searched.new.next ≤ MESSAGE_LIMIT }
+{
+    if ended || held.len() > MESSAGE_LIMIT {
+        return find(searched, held, ended);
+    }
+    if !searched.sees_feed(held) {
+        return Found::More;
+    }
+    find(searched, held, ended)
+}
+
+/// The same by a search of what wasn't looked over.
 fn find(searched: &mut Searched, held: &[u8], ended: bool) -> Found
     requires searched { IsSearched searched.old.text searched.old.next held.now }
     requires limit { searched.old.next ≤ MESSAGE_LIMIT }
     ensures shows { Shows ended held.now result }
-    ensures searched { IsSearched searched.new.text searched.new.next
+    ensures searched { IsKnown searched.new.text searched.new.next searched.new.seen
         (drop (taken_by result) held.now) }
     ensures limit { searched.new.next ≤ MESSAGE_LIMIT }
 {
@@ -174,7 +193,10 @@ fn find(searched: &mut Searched, held: &[u8], ended: bool) -> Found
     } else if held.len() > MESSAGE_LIMIT {
         Found::TooLong
     } else if !ended {
-        *searched = further;
+        *searched = Searched {
+            seen: further.next,
+            ..further
+        };
         Found::More
     } else {
         Found::Message(Extent {

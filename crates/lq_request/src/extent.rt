@@ -1,10 +1,11 @@
 ghost use Rattle.std.specs.Prelude.{◌≡◌, ℕ, ◌+◌, ◌<◌, ◌≤◌, true, false, List, length, drop, take, IfNone, IfSome};
+ghost use Rattle.std.specs.Bool.{OnFalse};
 ghost use Rattle.std.specs.List.{prefix_len};
 ghost use Rattle.lq_text.specs.Blanks.{is_blank};
 ghost use Rattle.lq_text.specs.Lines.{line_text};
-ghost use Rattle.lq_request.specs.Messages.{command_text, ends_word, front_lines, is_command, is_line_of, one_empty_line};
+ghost use Rattle.lq_request.specs.Messages.{command_text, ends_word, front_lines, is_command, is_line_of, message_of, one_empty_line};
 ghost use Rattle.lq_request.specs.Extent.{IsExtent};
-ghost use Rattle.lq_request.specs.Search.{AreLines, IsSearched};
+ghost use Rattle.lq_request.specs.Search.{AreLines, IsKnown, IsSearched};
 ghost use Rattle.lq_request.specs.declared.extent.LineKind.TheVariants as line_kind;
 
 use lq_text::{is_blank, next_line};
@@ -44,11 +45,12 @@ enum LineKind {
 }
 
 /// How far bytes were looked over: they are empty lines up to `text`, and from there on whole lines
-/// of a query up to `next`.
+/// of a query up to `next`; behind those no line feed stands up to `seen`.
 #[derive(Clone, Copy)]
 pub struct Searched {
     pub text: usize,
     pub next: usize,
+    pub seen: usize,
 }
 
 impl Searched {
@@ -56,8 +58,30 @@ impl Searched {
     pub fn nothing() -> Self
         ensures text { result.text ≡ 0 }
         ensures next { result.next ≡ 0 }
+        ensures seen { result.seen ≡ 0 }
     {
-        Searched { text: 0, next: 0 }
+        Searched {
+            text: 0,
+            next: 0,
+            seen: 0,
+        }
+    }
+
+    /// Whether a line feed stands behind what was seen. Where none does, no message has ended.
+    pub fn sees_feed(&mut self, bytes: &[u8]) -> bool
+        requires { IsKnown self.old.text self.old.next self.old.seen bytes.now }
+        ensures none { OnFalse result ((message_of bytes.now).ended ≡ false) }
+        ensures same { self.new.next ≡ self.old.next }
+        ensures known { IsKnown self.new.text self.new.next self.new.seen bytes.now }
+    {
+        let Some((end, next)) = next_line(bytes, self.seen) else {
+            return false;
+        };
+        if end < next {
+            return true;
+        }
+        self.seen = next;
+        false
     }
 
     /// The first message of the bytes. What was looked over before isn't looked at again.

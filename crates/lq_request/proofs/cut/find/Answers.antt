@@ -2,7 +2,7 @@ use Rattle.std.proofs.Common.{subst, sym}
 use Rattle.lq_request.specs.Extent.{IsExtent}
 use Rattle.lq_request.proofs.CutLemmas.{shows_ended, shows_long, shows_more, shows_last}
 use Rattle.lq_request.specs.Search.{IsSearched}
-use Rattle.lq_request.proofs.SearchLemmas.{searched_in_window, searched_of_window, within_window}
+use Rattle.lq_request.proofs.SearchLemmas.{known_nothing, known_searched, searched_in_window, searched_of_window, within_window}
 use Rattle.lq_request.proofs.cut.find.Goals as goal
 
 pub returns-then-extent-clause-shows : goal.returns-then-extent-clause-shows
@@ -32,8 +32,9 @@ extent_of-extent-requires c =
 
 pub returns-then-not-ended-clause-searched : goal.returns-then-not-ended-clause-searched
 returns-then-not-ended-clause-searched c =
-    searched_of_window _ _ 65536 c.args.held.now
-    (subst (IsSearched c.extent_of-extent.new.self.text c.extent_of-extent.new.self.next) c.window.ensures c.extent_of-extent.ensures.searched)
+    known_searched _ _ c.args.held.now
+    (searched_of_window _ _ 65536 c.args.held.now
+    (subst (IsSearched c.extent_of-extent.new.self.text c.extent_of-extent.new.self.next) c.window.ensures c.extent_of-extent.ensures.searched))
 
 pub returns-then-not-ended-clause-limit : goal.returns-then-not-ended-clause-limit
 returns-then-not-ended-clause-limit c =

@@ -1,7 +1,7 @@
 use Rattle.std.proofs.Common.{arith, sym, subst, ap, ◌∙◌, ◌++◌}
-use Rattle.lq_request.specs.Search.{IsSearched}
+use Rattle.lq_request.specs.Search.{IsKnown}
 use Rattle.lq_request.proofs.CutLemmas.{fed_view}
-use Rattle.lq_request.proofs.SearchLemmas.{searched_append}
+use Rattle.lq_request.proofs.SearchLemmas.{known_append}
 use Rattle.lq_request.proofs.cut.Cut.feed.Goals as goal
 
 pub invariant_of-self : goal.invariant_of-self
@@ -15,7 +15,7 @@ invariant_of-self c =
       omega (arith, room, c.make_room-self-inside.auto.buffer, c.deref_mut.ensures.len, old.2),
       old.2,
       old.3,
-      subst (IsSearched c.self.inside.searched.text c.self.inside.searched.next) (sym view) (searched_append _ _ _ c.args.piece.now old.4),
+      subst (IsKnown c.self.inside.searched.text c.self.inside.searched.next c.self.inside.searched.seen) (sym view) (known_append _ _ _ _ c.args.piece.now old.4),
     )
 
 pub returns : goal.returns

@@ -1,5 +1,5 @@
 use Rattle.std.proofs.Common.{◌≡◌, refl, sym, ap, ◌∙◌, subst, arith}
-use Rattle.lq_request.proofs.CutLemmas.{left_searched, left_within, next_of, behind_of, part_of, front_of}
+use Rattle.lq_request.proofs.CutLemmas.{left_known, left_within, next_of, behind_of, part_of, front_of}
 use Rattle.lq_request.proofs.OrderLemmas.{in_order}
 use Rattle.lq_request.specs.Cutting.{found_piece, shown, taken_by}
 use Rattle.lq_request.specs.Messages.{IsNext, More, TooLong, rest_behind, whole}
@@ -44,8 +44,8 @@ invariant_of-self-in-Message c =
       left_within c.args.ended c.self.inside.buffer.items c.self.inside.start c.self.inside.end _ _ c.held.ensures c.self.view_is (found.Message c.in-Message.extent) _ taken within old.0,
       old.1,
       old.2,
-      c.find-found.ensures.limit,
-      left_searched c.args.ended c.self.inside.buffer.items c.self.inside.start c.self.inside.end _ _ c.held.ensures c.self.view_is (found.Message c.in-Message.extent) _ _ _ taken within c.in-Message.ensures.searched,
+      c.first_found-found.ensures.limit,
+      left_known c.args.ended c.self.inside.buffer.items c.self.inside.start c.self.inside.end _ _ c.held.ensures c.self.view_is (found.Message c.in-Message.extent) _ _ _ _ taken within c.in-Message.ensures.searched,
     )
 
 pub invariant_of-self-in-TooLong : goal.invariant_of-self-in-TooLong
@@ -56,6 +56,6 @@ invariant_of-self-in-TooLong c =
       left_within c.args.ended c.self.inside.buffer.items c.self.inside.start c.self.inside.end _ _ c.held.ensures c.self.view_is found.TooLong _ taken within old.0,
       old.1,
       old.2,
-      c.find-found.ensures.limit,
-      left_searched c.args.ended c.self.inside.buffer.items c.self.inside.start c.self.inside.end _ _ c.held.ensures c.self.view_is found.TooLong _ _ _ taken within c.in-TooLong.ensures.searched,
+      c.first_found-found.ensures.limit,
+      left_known c.args.ended c.self.inside.buffer.items c.self.inside.start c.self.inside.end _ _ c.held.ensures c.self.view_is found.TooLong _ _ _ _ taken within c.in-TooLong.ensures.searched,
     )
