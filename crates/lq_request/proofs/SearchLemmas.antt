@@ -2,7 +2,7 @@
 use Rattle.std.proofs.Common.{◌≡◌, ℕ, ◌+◌, ◌-◌, ◌<◌, ◌≤◌, ◌==◌, nat_lt, not, true, false, List, [], ◌∷◌, ◌++◌, slice_index, length, take, drop, refl, sym, ap, ◌∙◌, subst, arith, append-nil, append_assoc, length-take, length-drop, length-append}
 use Rattle.std.specs.List.{concat, take_while}
 use Rattle.std.proofs.lemmas.Bool.{cases_Bool, cases_lt, eqb-true, eqb-false}
-use Rattle.std.proofs.lemmas.List.{drop-drop, take-take, take-append-drop, take-append-le, drop-append-le, drop-take}
+use Rattle.std.proofs.lemmas.List.{drop-drop, take-take, take-append-drop, take-append-le, drop-take}
 use Rattle.std.proofs.lemmas.List.Sums.{passes_at_first, fails_before_first}
 use Rattle.std.proofs.Math.Logic.{⊎_elim}
 use Rattle.std.proofs.lemmas.Grind.{common_steps}

@@ -2,7 +2,7 @@ use Rattle.std.proofs.Common.{subst, sym}
 use Rattle.lq_request.specs.Extent.{IsExtent}
 use Rattle.lq_request.proofs.CutLemmas.{shows_ended, shows_long, shows_more, shows_last}
 use Rattle.lq_request.specs.Search.{IsSearched}
-use Rattle.lq_request.proofs.SearchLemmas.{known_nothing, known_searched, searched_in_window, searched_of_window, within_window}
+use Rattle.lq_request.proofs.SearchLemmas.{known_searched, searched_in_window, searched_of_window, within_window}
 use Rattle.lq_request.proofs.cut.find.Goals as goal
 
 pub returns-then-extent-clause-shows : goal.returns-then-extent-clause-shows

@@ -1,5 +1,4 @@
-use Rattle.std.proofs.Common.{arith, rules, sym, subst, []}
-use Rattle.lq_request.specs.Search.{IsSearched}
+use Rattle.std.proofs.Common.{arith, []}
 use Rattle.lq_request.proofs.SearchLemmas.{known_nothing}
 use Rattle.lq_request.proofs.cut.Cut.new.Goals as goal
 
