@@ -1,9 +1,10 @@
 -- Where a search stands, it may go on.
 use Rattle.std.proofs.Common.{◌≡◌, ℕ, ◌+◌, ◌-◌, ◌<◌, ◌≤◌, ◌==◌, nat_lt, not, true, false, List, [], ◌∷◌, ◌++◌, slice_index, length, take, drop, refl, sym, ap, ◌∙◌, subst, arith, append-nil, append_assoc, length-take, length-drop, length-append}
-use Rattle.std.specs.List.{concat, take_while}
+use Rattle.std.specs.List.{concat, take_while, Contains}
 use Rattle.std.proofs.lemmas.Bool.{cases_Bool, cases_lt, eqb-true, eqb-false}
 use Rattle.std.proofs.lemmas.List.{drop-drop, take-take, take-append-drop, take-append-le, drop-take}
 use Rattle.std.proofs.lemmas.List.Sums.{passes_at_first, fails_before_first}
+use Rattle.std.proofs.lemmas.List.Elements.{Contains-get_or}
 use Rattle.std.proofs.Math.Logic.{⊎_elim}
 use Rattle.std.proofs.lemmas.Grind.{common_steps}
 use Rattle.lq_text.specs.Lines.{IsLineAt, line_text, whole_lines}
@@ -67,6 +68,12 @@ module _ (bytes : List ℕ) (at end next : ℕ) (is : IsLineAt bytes at end next
       let feed : HasFeed (drop at bytes) = line_has_feed (drop at bytes) line (whole_lines (drop next bytes)) is.whole has in
       let both = sym is.whole ∙ first_line_alone (drop at bytes) feed in
       (cc, feed)
+
+  pub fed_contains : end < next → Contains (drop at bytes) 10
+  fed_contains fed =
+      let rest : List ℕ = drop at bytes in
+      let low : feed_place rest < length rest = (fed_line fed).1.within in
+      subst (Contains rest) (eqb-true _ _ (passes_at_first (λ byte. byte == 10) rest 0 low)) (Contains-get_or rest (feed_place rest) 0 low)
 
   -- a line with its line feed is one line, whatever follows
   pub single_line : end < next → (rest : List ℕ) → whole_lines (line ++ rest) ≡ line ∷ whole_lines rest

@@ -1,5 +1,5 @@
-ghost use Rattle.std.specs.Prelude.{◌≡◌, ℕ, ◌+◌, ◌<◌, ◌≤◌, true, false, List, length, drop, take, IfNone, IfSome};
-ghost use Rattle.std.specs.Bool.{OnFalse};
+ghost use Rattle.std.specs.Prelude.{◌≡◌, ℕ, ◌+◌, ◌<◌, ◌≤◌, true, false, Contains, List, length, drop, take, IfNone, IfSome};
+ghost use Rattle.std.specs.Bool.{OnFalse, OnTrue};
 ghost use Rattle.std.specs.List.{prefix_len};
 ghost use Rattle.lq_text.specs.Blanks.{is_blank};
 ghost use Rattle.lq_text.specs.Lines.{line_text};
@@ -70,6 +70,7 @@ impl Searched {
     /// Whether a line feed stands behind what was seen. Where none does, no message has ended.
     pub fn sees_feed(&mut self, bytes: &[u8]) -> bool
         requires { IsKnown self.old.text self.old.next self.old.seen bytes.now }
+        ensures some { OnTrue result (Contains (drop self.old.seen bytes.now) 10) }
         ensures none { OnFalse result ((message_of bytes.now).ended ≡ false) }
         ensures same { self.new.next ≡ self.old.next }
         ensures known { IsKnown self.new.text self.new.next self.new.seen bytes.now }
@@ -90,6 +91,7 @@ impl Searched {
         requires { IsSearched self.old.text self.old.next bytes.now }
         ensures extent { IsExtent bytes.now result }
         ensures searched { IsSearched self.new.text self.new.next bytes.now }
+        ensures seen { self.new.seen ≡ self.old.seen }
     {
         if self.text < self.next {
             return self.query(bytes);
@@ -131,6 +133,7 @@ impl Searched {
         requires searched { IsSearched self.old.text self.old.next bytes.now }
         ensures extent { IsExtent bytes.now result }
         ensures searched { IsSearched self.new.text self.new.next bytes.now }
+        ensures seen { self.new.seen ≡ self.old.seen }
     {
         let front = front_length(&bytes[self.next..], LineKind::Text);
         let end = self.next + front.all;
