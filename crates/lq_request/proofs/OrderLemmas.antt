@@ -36,10 +36,6 @@ piece_closed ended bytes is open' = (piece_cases ended bytes (window_message byt
 window_none : window_message [] ≡ record { kind = message.Nothing; text = []; size = 0; ended = false }
 window_none = ap message_of (grind (arith, common_steps)) ∙ message_none
 
--- a message at the front of no bytes
-none_ended : (bytes : List ℕ) → bytes ≡ [] → (window_message bytes).ended ≡ true → ⊥
-none_ended bytes none is = let open' : (window_message bytes).ended ≡ false = ap (λ b. (window_message b).ended) none ∙ ap (λ m. m.ended) window_none in cc
-
 first_of_none : (ended : Bool) → IsMessage (first_piece ended []) → ⊥
 unfolding first_piece
 first_of_none true is = subst IsMessage (ap (piece_of true []) window_none) is
