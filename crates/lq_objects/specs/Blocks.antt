@@ -29,16 +29,19 @@ telling_lines bytes = telling_after 0 (lines_of bytes)
 -- the one word of a text, where it has exactly one
 abbrev pub one_word : List ℕ → Option (List ℕ)
 one_word text =
-    if length (trimmed text) == 0 || list_any is_blank (trimmed text) then None else Some (trimmed text)
+    if length (trimmed text) == 0 || list_any is_blank (trimmed text) then None
+    else Some (trimmed text)
 
 -- a line that opens a block is `define`, blanks, one word, blanks or none, `{`
 abbrev pub is_opening_text : List ℕ → Bool
 is_opening_text text =
-    starts_with nat_eq text (codes "define") && is_blank (slice_index text 6) && (slice_index text (length text - 1) == 123)
+    starts_with nat_eq text (codes "define") && is_blank (slice_index text 6)
+        && (slice_index text (length text - 1) == 123)
 
 -- the word of a line that opens a block
 abbrev pub opened_word : List ℕ → Option (List ℕ)
-opened_word text = if is_opening_text text then one_word (take (length text - 7) (drop 6 text)) else None
+opened_word text =
+    if is_opening_text text then one_word (take (length text - 7) (drop 6 text)) else None
 
 -- a line `}` closes a block
 abbrev pub is_closing : Line → Bool
@@ -46,7 +49,8 @@ is_closing line = bytes_eq line.text (codes "}")
 
 -- ---- parts
 
--- A part of the file: the lines up to a line `}`, and that line. It lacks at the end of the file alone.
+-- A part of the file: the lines up to a line `}`, and that line. It lacks at the end of the file
+-- alone.
 pub record Part : Type 0 where
   pub lines : List Line
   pub closing : Option Line
@@ -58,14 +62,16 @@ begin_part line (part ∷ parts) = record part { lines = line ∷ part.lines } �
 abbrev pub parts_of : List Line → List Part
 parts_of [] = []
 parts_of (line ∷ lines) =
-    if is_closing line then record { lines = []; closing = Some line } ∷ parts_of lines else begin_part line (parts_of lines)
+    if is_closing line then record { lines = []; closing = Some line } ∷ parts_of lines
+    else begin_part line (parts_of lines)
 
 -- ---- directives
 
 -- a directive's name stands at the front of its line, and a blank or nothing follows it
 abbrev pub is_named : List ℕ → List ℕ → Bool
 is_named name text =
-    starts_with nat_eq text name && ((length text == length name) || is_blank (slice_index text (length name)))
+    starts_with nat_eq text name
+        && ((length text == length name) || is_blank (slice_index text (length name)))
 
 -- its value follows the blanks
 abbrev pub value_of : List ℕ → List ℕ → List ℕ
@@ -73,4 +79,6 @@ value_of name text = trimmed (drop (length name) text)
 
 -- the value of the directive with a name; of several the last decides
 abbrev pub directive : List ℕ → List Line → Option (List ℕ)
-directive name lines = option_map (λ line. value_of name line.text) (find (λ line. is_named name line.text) (reverse lines))
+directive name lines =
+    option_map (λ line. value_of name line.text)
+    (find (λ line. is_named name line.text) (reverse lines))

@@ -20,4 +20,5 @@ Checks (Err error) fault = Tells error fault
 -- the names with those of further blocks
 abbrev pub with_blocks : Directory → List Block → Directory
 with_blocks directory [] = directory
-with_blocks directory (block ∷ blocks) = with_blocks (with_name directory block.kind (name_of block.kind block.lines)) blocks
+with_blocks directory (block ∷ blocks) =
+    with_blocks (with_name directory block.kind (name_of block.kind block.lines)) blocks

@@ -7,7 +7,8 @@ use Rattle.lq_objects.specs.declared.kind.Kind.TheVariants.{Host, Service, HostG
 use Rattle.lq_objects.specs.declared.directory.Directory.{Directory}
 
 abbrev pub empty : Directory
-empty = record { hosts = []; services = []; host_groups = []; service_groups = []; contacts = []; contact_groups = []; periods = []; commands = [] }
+empty = record { hosts = []; services = []; host_groups = []; service_groups = []; contacts = [];
+    contact_groups = []; periods = []; commands = [] }
 
 -- the names of a kind
 abbrev pub known : Directory → Kind → List Name
@@ -23,10 +24,13 @@ known directory Command = directory.commands
 abbrev pub with_name : Directory → Kind → Name → Directory
 with_name directory Host name = record directory { hosts = directory.hosts ++ name ∷ [] }
 with_name directory Service name = record directory { services = directory.services ++ name ∷ [] }
-with_name directory HostGroup name = record directory { host_groups = directory.host_groups ++ name ∷ [] }
-with_name directory ServiceGroup name = record directory { service_groups = directory.service_groups ++ name ∷ [] }
+with_name directory HostGroup name =
+    record directory { host_groups = directory.host_groups ++ name ∷ [] }
+with_name directory ServiceGroup name =
+    record directory { service_groups = directory.service_groups ++ name ∷ [] }
 with_name directory Contact name = record directory { contacts = directory.contacts ++ name ∷ [] }
-with_name directory ContactGroup name = record directory { contact_groups = directory.contact_groups ++ name ∷ [] }
+with_name directory ContactGroup name =
+    record directory { contact_groups = directory.contact_groups ++ name ∷ [] }
 with_name directory Period name = record directory { periods = directory.periods ++ name ∷ [] }
 with_name directory Command name = record directory { commands = directory.commands ++ name ∷ [] }
 

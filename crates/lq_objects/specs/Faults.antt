@@ -29,12 +29,14 @@ first_of f (x ∷ xs) = option_or (f x) (first_of f xs)
 -- the number that a value says, where it is in a range
 abbrev pub number_in : ℕ → ℕ → List ℕ → Option ℕ
 number_in least most value =
-    if nat_lt 0 (length value) && list_all is_ascii_digit value && nat_le least (number_of value) && nat_le (number_of value) most
+    if nat_lt 0 (length value) && list_all is_ascii_digit value && nat_le least (number_of value)
+        && nat_le (number_of value) most
     then Some (number_of value) else None
 
 -- whether a line is a directive with a number that isn't in its range
 abbrev pub is_bad : ℕ → ℕ → List ℕ → List ℕ → Bool
-is_bad least most name text = is_named name text && is_none (number_in least most (value_of name text))
+is_bad least most name text =
+    is_named name text && is_none (number_in least most (value_of name text))
 
 -- hosts and services have numbers
 abbrev pub has_numbers : Kind → Bool
@@ -49,7 +51,9 @@ has_numbers kind.Command = false
 
 abbrev pub is_bad_number : Kind → List ℕ → Bool
 is_bad_number kind text =
-    has_numbers kind && (is_bad 1 1000000 (codes "max_check_attempts") text || is_bad 0 1 (codes "notifications_enabled") text)
+    has_numbers kind
+        && (is_bad 1 1000000 (codes "max_check_attempts") text
+        || is_bad 0 1 (codes "notifications_enabled") text)
 
 -- `use` and `register` stand in files that aren't flattened
 abbrev pub is_template : List ℕ → Bool
@@ -58,13 +62,16 @@ is_template text = is_named (codes "use") text || is_named (codes "register") te
 -- the fault of a line in a block of a known kind
 abbrev pub directive_fault : Kind → Line → Option Fault
 directive_fault kind line =
-    option_or (fault_if (is_template line.text) line.number NotFlattened) (fault_if (is_bad_number kind line.text) line.number BadNumber)
+    option_or (fault_if (is_template line.text) line.number NotFlattened)
+        (fault_if (is_bad_number kind line.text) line.number BadNumber)
 
--- the fault of a line in a block that the line `opening` opens; another opening line shows that it isn't closed
+-- the fault of a line in a block that the line `opening` opens; another opening line shows that it
+-- isn't closed
 abbrev pub inner_fault : ℕ → Option Kind → Line → Option Fault
 inner_fault opening None line = fault_if (is_some (opened_word line.text)) opening Unclosed
 inner_fault opening (Some kind) line =
-    option_or (fault_if (is_some (opened_word line.text)) opening Unclosed) (directive_fault kind line)
+    option_or (fault_if (is_some (opened_word line.text)) opening Unclosed)
+        (directive_fault kind line)
 
 -- ---- a block's name
 
@@ -72,7 +79,8 @@ abbrev pub is_empty : List ℕ → Bool
 is_empty text = length text == 0
 
 abbrev pub lacks_name : Kind → Name → Bool
-lacks_name kind name = is_empty name.first || (is_some (second_directive kind) && is_empty name.second)
+lacks_name kind name =
+    is_empty name.first || (is_some (second_directive kind) && is_empty name.second)
 
 -- a host's and a service's names are without `;`
 abbrev pub has_separator : List ℕ → Bool
@@ -92,26 +100,34 @@ name_fault kind earlier name line =
 -- ---- a part
 
 -- the fault where a block ends: it isn't closed, or its object's name is at fault
-abbrev pub ending_fault : (Kind → List Name) → ℕ → Option Kind → List Line → Option Line → Option Fault
+abbrev pub ending_fault : (Kind → List Name) → ℕ → Option Kind → List Line → Option Line
+    → Option Fault
 ending_fault earlier opening kind lines None = Some (record { line = opening; what = Unclosed })
 ending_fault earlier opening None lines (Some closing) = None
-ending_fault earlier opening (Some kind) lines (Some closing) = name_fault kind (earlier kind) (name_of kind lines) closing.number
+ending_fault earlier opening (Some kind) lines (Some closing) =
+    name_fault kind (earlier kind) (name_of kind lines) closing.number
 
 -- the fault of a block that is open, by its kind
-abbrev pub opened_fault : (Kind → List Name) → ℕ → Option Kind → List Line → Option Line → Option Fault
+abbrev pub opened_fault : (Kind → List Name) → ℕ → Option Kind → List Line → Option Line
+    → Option Fault
 opened_fault earlier opening kind lines closing =
-    option_or (first_of (inner_fault opening kind) lines) (ending_fault earlier opening kind lines closing)
+    option_or (first_of (inner_fault opening kind) lines)
+        (ending_fault earlier opening kind lines closing)
 
 -- the fault of a block, by the word after `define`
-abbrev pub block_fault : (Kind → List Name) → ℕ → Option (List ℕ) → List Line → Option Line → Option Fault
+abbrev pub block_fault : (Kind → List Name) → ℕ → Option (List ℕ) → List Line → Option Line
+    → Option Fault
 block_fault earlier opening None lines closing = Some (record { line = opening; what = Stray })
-block_fault earlier opening (Some word) lines closing = opened_fault earlier opening (kind_named word) lines closing
+block_fault earlier opening (Some word) lines closing =
+    opened_fault earlier opening (kind_named word) lines closing
 
--- the fault of a part, by the names in the parts before it; its first line opens a block, or is stray
+-- the fault of a part, by the names in the parts before it; its first line opens a block, or is
+-- stray
 abbrev pub part_fault : (Kind → List Name) → List Line → Option Line → Option Fault
 part_fault earlier [] None = None
 part_fault earlier [] (Some closing) = Some (record { line = closing.number; what = Stray })
-part_fault earlier (opening ∷ lines) closing = block_fault earlier opening.number (opened_word opening.text) lines closing
+part_fault earlier (opening ∷ lines) closing =
+    block_fault earlier opening.number (opened_word opening.text) lines closing
 
 -- the block that a part is, where its kind is known
 abbrev pub known_block : Option Kind → List Line → List Block
@@ -120,24 +136,29 @@ known_block (Some kind) lines = record { kind = kind; lines = lines } ∷ []
 
 abbrev pub block_of : List Line → List Block
 block_of [] = []
-block_of (opening ∷ lines) = known_block (option_and_then kind_named (opened_word opening.text)) lines
+block_of (opening ∷ lines) =
+    known_block (option_and_then kind_named (opened_word opening.text)) lines
 
 -- the first fault of all the parts, each after the blocks before it
 abbrev pub parts_fault : List Block → List Part → Option Fault
 parts_fault before [] = None
 parts_fault before (part ∷ parts) =
-    option_or (part_fault (names_of before) part.lines part.closing) (parts_fault (before ++ block_of part.lines) parts)
+    option_or (part_fault (names_of before) part.lines part.closing)
+        (parts_fault (before ++ block_of part.lines) parts)
 
 -- ---- names that aren't there
 
 -- whether a value names what isn't there
 abbrev pub is_unknown : (Kind → List Name) → Reference → List ℕ → Bool
 is_unknown known reference value =
-    option_map_or (λ names. list_any (λ name. is_none (place_of (known (target reference)) name)) names) (named_in reference value) true
+    option_map_or
+        (λ names. list_any (λ name. is_none (place_of (known (target reference)) name)) names)
+        (named_in reference value) true
 
 -- whether a line is the last one with a directive, so that it decides
 abbrev pub decides : List ℕ → Line → List Line → Bool
-decides name line later = is_named name line.text && not (list_any (λ other. is_named name other.text) later)
+decides name line later =
+    is_named name line.text && not (list_any (λ other. is_named name other.text) later)
 
 abbrev pub names_unknown : (Kind → List Name) → Line → List Line → Reference → Bool
 names_unknown known line later reference =
@@ -148,7 +169,9 @@ names_unknown known line later reference =
 abbrev pub unknown_in : (Kind → List Name) → Kind → List Line → Option Fault
 unknown_in known kind [] = None
 unknown_in known kind (line ∷ later) =
-    option_or (fault_if (list_any (names_unknown known line later) (references kind)) line.number UnknownName) (unknown_in known kind later)
+    option_or
+        (fault_if (list_any (names_unknown known line later) (references kind)) line.number UnknownName)
+        (unknown_in known kind later)
 
 abbrev pub unknown_in_block : (Kind → List Name) → Block → Option Fault
 unknown_in_block known block = unknown_in known block.kind block.lines

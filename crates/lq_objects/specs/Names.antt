@@ -40,7 +40,8 @@ names_of blocks kind = map (λ block. name_of kind block.lines) (filter (is_of k
 
 -- what stands between commas, without blanks round it; empty elements are dropped
 abbrev pub pieces_of : List ℕ → List (List ℕ)
-pieces_of value = filter (λ piece. not (length piece == 0)) (map trimmed (slice_split (λ byte. byte == 44) value))
+pieces_of value =
+    filter (λ piece. not (length piece == 0)) (map trimmed (slice_split (λ byte. byte == 44) value))
 
 -- the same as texts, their bytes that aren't UTF-8 replaced
 abbrev pub elements : List ℕ → List (List ℕ)
@@ -50,7 +51,8 @@ elements value = map cleaned (pieces_of value)
 abbrev pub pairs_of : List (List ℕ) → Option (List Name)
 pairs_of [] = Some []
 pairs_of (only ∷ []) = None
-pairs_of (first ∷ second ∷ rest) = option_map (λ names. record { first = first; second = second } ∷ names) (pairs_of rest)
+pairs_of (first ∷ second ∷ rest) =
+    option_map (λ names. record { first = first; second = second } ∷ names) (pairs_of rest)
 
 -- the names in the value of a directive
 abbrev pub named_in : Reference → List ℕ → Option (List Name)

@@ -36,7 +36,8 @@ distinct (x ∷ xs) = x ∷ filter (λ y. not (nat_eq x y)) (distinct xs)
 -- the places of the objects that a value names, without repeats
 abbrev pub places_in : (Kind → List Name) → Reference → List ℕ → List ℕ
 places_in known reference value =
-    distinct (filter_map (place_of (known (target reference))) (unwrap_or (named_in reference value) []))
+    distinct (filter_map (place_of (known (target reference)))
+        (unwrap_or (named_in reference value) []))
 
 -- the places of the objects that a block's directive names
 abbrev pub places : (Kind → List Name) → Reference → List Line → List ℕ
@@ -51,7 +52,8 @@ ids id_at known reference lines = map id_at (places known reference lines)
 
 -- the number of a directive
 abbrev pub number_or : ℕ → ℕ → ℕ → List ℕ → List Line → ℕ
-number_or absent least most name lines = unwrap_or (option_and_then (number_in least most) (directive name lines)) absent
+number_or absent least most name lines =
+    unwrap_or (option_and_then (number_in least most) (directive name lines)) absent
 
 -- a custom variable is a directive that begins with `_`; its name goes up to the first blank
 abbrev pub is_variable : List ℕ → Bool
@@ -61,16 +63,21 @@ abbrev pub variable_name : List ℕ → List ℕ
 variable_name text = take (prefix_len (λ byte. not (is_blank byte)) text) text
 
 abbrev pub variable_of : Line → List ℕ × List ℕ
-variable_of line = (cleaned (variable_name line.text), cleaned (value_of (variable_name line.text) line.text))
+variable_of line =
+    (cleaned (variable_name line.text), cleaned (value_of (variable_name line.text) line.text))
 
 -- the value of the last variable with a name
 abbrev pub last_value : List ℕ × List ℕ → List (List ℕ × List ℕ) → List ℕ
-last_value first later = option_map_or (λ other. other.1) (find (λ other. bytes_eq first.0 other.0) (reverse later)) first.1
+last_value first later =
+    option_map_or (λ other. other.1)
+    (find (λ other. bytes_eq first.0 other.0) (reverse later)) first.1
 
 -- each name once, where it first comes, with its last value
 abbrev pub merged : List (List ℕ × List ℕ) → List (List ℕ × List ℕ)
 merged [] = []
-merged (first ∷ later) = (first.0, last_value first later) ∷ filter (λ other. not (bytes_eq first.0 other.0)) (merged later)
+merged (first ∷ later) =
+    (first.0, last_value first later)
+    ∷ filter (λ other. not (bytes_eq first.0 other.0)) (merged later)
 
 abbrev pub custom_variables : List Line → List (List ℕ × List ℕ)
 custom_variables lines = merged (map variable_of (filter (λ line. is_variable line.text) lines))
@@ -106,7 +113,8 @@ host_of known lines =
       fields = fields_of known name lines;
     }
 
--- the place of the host that a service names; a service that names none isn't in a file without faults
+-- the place of the host that a service names; a service that names none isn't in a file without
+-- faults
 abbrev pub host_place : List ℕ → ℕ
 host_place [] = 0
 host_place (place ∷ places) = place
@@ -198,14 +206,22 @@ objects_of known rules blocks = record {
 
 -- the objects with the one of a further block
 abbrev pub with_object : (Kind → List Name) → Base → Kind → List Line → Base
-with_object known base kind.Host lines = record base { hosts = base.hosts ++ host_of known lines ∷ [] }
-with_object known base kind.Service lines = record base { services = base.services ++ service_of known lines ∷ [] }
-with_object known base kind.HostGroup lines = record base { host_groups = base.host_groups ++ host_group_of known lines ∷ [] }
-with_object known base kind.ServiceGroup lines = record base { service_groups = base.service_groups ++ service_group_of known lines ∷ [] }
-with_object known base kind.Contact lines = record base { contacts = base.contacts ++ contact_of lines ∷ [] }
-with_object known base kind.ContactGroup lines = record base { contact_groups = base.contact_groups ++ contact_group_of known lines ∷ [] }
-with_object known base kind.Period lines = record base { periods = base.periods ++ period_of lines ∷ [] }
-with_object known base kind.Command lines = record base { commands = base.commands ++ command_of lines ∷ [] }
+with_object known base kind.Host lines =
+    record base { hosts = base.hosts ++ host_of known lines ∷ [] }
+with_object known base kind.Service lines =
+    record base { services = base.services ++ service_of known lines ∷ [] }
+with_object known base kind.HostGroup lines =
+    record base { host_groups = base.host_groups ++ host_group_of known lines ∷ [] }
+with_object known base kind.ServiceGroup lines =
+    record base { service_groups = base.service_groups ++ service_group_of known lines ∷ [] }
+with_object known base kind.Contact lines =
+    record base { contacts = base.contacts ++ contact_of lines ∷ [] }
+with_object known base kind.ContactGroup lines =
+    record base { contact_groups = base.contact_groups ++ contact_group_of known lines ∷ [] }
+with_object known base kind.Period lines =
+    record base { periods = base.periods ++ period_of lines ∷ [] }
+with_object known base kind.Command lines =
+    record base { commands = base.commands ++ command_of lines ∷ [] }
 
 abbrev pub base_or : Option Fault → Base → Result Base Fault
 base_or None base = Ok base

@@ -24,9 +24,11 @@ pub(crate) fn read_part<'p, 'a>(
     directory: &mut Directory,
     part: &Part<'p, 'a>,
 ) -> Result<Option<Block<'p, 'a>>, ObjectsErr>
-    ensures fault { Checks result (part_fault (known directory.old) part.now.lines.now (option_copied part.now.closing)) }
+    ensures fault { Checks result
+        (part_fault (known directory.old) part.now.lines.now (option_copied part.now.closing)) }
     ensures block { IfOk result (λ block. option_to_list block ≡ block_of part.now.lines.now) }
-    ensures directory { IfOk result (λ block. directory.new ≡ with_blocks directory.old (option_to_list block)) }
+    ensures directory { IfOk result
+        (λ block. directory.new ≡ with_blocks directory.old (option_to_list block)) }
 {
     let Some((opening, lines)) = part.lines.split_first() else {
         return match part.closing {
@@ -56,9 +58,11 @@ fn read_opened<'p, 'a>(
     lines: &'p [Line<'a>],
     closing: Option<&Line<'a>>,
 ) -> Result<Option<Block<'p, 'a>>, ObjectsErr>
-    ensures fault { Checks result (opened_fault (known directory.old) opening kind lines.now (option_copied closing.entry)) }
+    ensures fault { Checks result
+        (opened_fault (known directory.old) opening kind lines.now (option_copied closing.entry)) }
     ensures block { IfOk result (λ block. option_to_list block ≡ known_block kind lines.now) }
-    ensures directory { IfOk result (λ block. directory.new ≡ with_blocks directory.old (option_to_list block)) }
+    ensures directory { IfOk result
+        (λ block. directory.new ≡ with_blocks directory.old (option_to_list block)) }
 {
     if let Some(fault) = lines_fault(opening, kind, lines) {
         return Err(fault.error());
@@ -84,9 +88,11 @@ fn read_block<'p, 'a>(
     lines: &'p [Line<'a>],
     closing: &Line<'a>,
 ) -> Result<Block<'p, 'a>, ObjectsErr>
-    ensures fault { Checks result (name_fault kind (known directory.old kind) (named kind lines.now) closing.now.number) }
+    ensures fault { Checks result
+        (name_fault kind (known directory.old kind) (named kind lines.now) closing.now.number) }
     ensures block { IfOk result (λ block. block ≡ record { kind = kind; lines = lines.now }) }
-    ensures directory { OnOk result (directory.new ≡ with_name directory.old kind (named kind lines.now)) }
+    ensures directory { OnOk result
+        (directory.new ≡ with_name directory.old kind (named kind lines.now)) }
 {
     let name = name_of(alloc, kind, lines).map_err(ObjectsErr::Memory)?;
     if let Some(what) = name_fault(kind, directory.of(kind), &name) {
@@ -140,7 +146,8 @@ fn directive_fault(kind: Kind, line: &Line<'_>) -> Option<Fault>
 
 /// What is wrong with an object's name, after the earlier ones of its kind.
 fn name_fault(kind: Kind, earlier: &NameIndex, name: &Name) -> Option<ObjectsWhat>
-    ensures value { (line : ℕ) → option_map (λ what. record { line = line; what = what }) result ≡ name_fault kind earlier.now name.now line }
+    ensures value { (line : ℕ) → option_map (λ what. record { line = line; what = what }) result
+        ≡ name_fault kind earlier.now name.now line }
     ensures absent { result ≡ None → place_of earlier.now name.now ≡ None }
 {
     if lacks_name(kind, name) {

@@ -21,7 +21,8 @@ pub(crate) fn is_named(name: &[u8], text: &[u8]) -> bool
     ends_word(text, name.len()) && text.starts_with(name)
 }
 
-/// Whether a word that begins a line may end at a place: the line ends there, or a blank stands there.
+/// Whether a word that begins a line may end at a place: the line ends there, or a blank stands
+/// there.
 fn ends_word(text: &[u8], at: usize) -> bool
     ensures { result ≡ ((length text.now == at) || is_blank (slice_index text.now at)) }
 {

@@ -17,7 +17,8 @@ pub(crate) fn named_in(
     reference: Reference,
     value: &[u8],
 ) -> Result<Option<Vec<Name>>, AllocError>
-    ensures { IfOk result (λ names. option_map (λ list. list.items) names ≡ named_in reference value.now) }
+    ensures { IfOk result
+        (λ names. option_map (λ list. list.items) names ≡ named_in reference value.now) }
 {
     match reference {
         Reference::ServiceHost => whole(alloc, value).map(Some),
@@ -63,7 +64,9 @@ fn singles(alloc: Global, pieces: &[&[u8]]) -> Result<Vec<Name>, AllocError>
 
 /// Names of two parts. None where the last one lacks its second.
 fn pairs(alloc: Global, pieces: &[&[u8]]) -> Result<Option<Vec<Name>>, AllocError>
-    ensures { IfOk result (λ names. option_map (λ list. list.items) names ≡ pairs_of (map cleaned (texts pieces.now))) }
+    ensures { IfOk result
+        (λ names. option_map (λ list. list.items) names
+        ≡ pairs_of (map cleaned (texts pieces.now))) }
 {
     let mut names = Vec::new(alloc);
     let mut at = 0;

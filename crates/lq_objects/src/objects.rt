@@ -86,7 +86,8 @@ impl<'r, 'a> Reader<'r, 'a> {
     }
 
     fn host(&self) -> Result<Host, AllocError>
-        ensures { IfOk result (λ host. host ≡ host_of (known self.now.directory.now) self.now.lines.now) }
+        ensures { IfOk result
+            (λ host. host ≡ host_of (known self.now.directory.now) self.now.lines.now) }
     {
         let host_name = self.text(b"host_name")?;
         Ok(Host {

@@ -35,7 +35,8 @@ pub(crate) fn places(
 
 /// The places of names that are there, in order and without repeats.
 fn places_of(alloc: Global, index: &NameIndex, names: &[Name]) -> Result<IndexSet<u32>, AllocError>
-    ensures { IfOk result (λ found. found.keys ≡ distinct (filter_map (place_of index.now) names.now)) }
+    ensures { IfOk result
+        (λ found. found.keys ≡ distinct (filter_map (place_of index.now) names.now)) }
 {
     let mut places = IndexSet::new(alloc);
     for name in names {
@@ -54,7 +55,8 @@ pub(crate) fn host_place(
     directory: &Directory,
     lines: &[Line<'_>],
 ) -> Result<HostId, AllocError>
-    ensures { IfOk result (λ id. id ≡ record { 0 = host_place (places (known directory.now) Reference.ServiceHost lines.now) }) }
+    ensures { IfOk result (λ id. id
+        ≡ record { 0 = host_place (places (known directory.now) Reference.ServiceHost lines.now) }) }
 {
     let places = places(alloc, directory, Reference::ServiceHost, lines)?;
     Ok(match places.as_slice().first() {

@@ -25,8 +25,9 @@ use std::alloc::{AllocError, Global};
 /// The file is the one that Nagios Core writes for its `object_cache_file`. Bytes that aren't UTF-8
 /// become U+FFFD. The base is sound: the names of a kind differ and none is empty, each id is a
 /// place in the list of its kind, and no list is longer than its limit. `ObjectsErr::At` comes
-/// exactly where the file has a fault, with the first one: by its line, and in one line in the order
-/// of `ObjectsWhat`, names that aren't there after all others. Any other error is that memory ran out.
+/// exactly where the file has a fault, with the first one: by its line, and in one line in the
+/// order of `ObjectsWhat`, names that aren't there after all others. Any other error is that memory
+/// ran out.
 pub fn read_objects(alloc: Global, b: &[u8], rules: Rules) -> Result<Base, ObjectsErr>
     ensures reads { Reads result (base_of b.now rules) }
     ensures sound { IfOk result IsSound }
@@ -95,8 +96,11 @@ fn read_next<'p, 'a>(
     part: &Part<'p, 'a>,
 ) -> Result<(), ObjectsErr>
     requires { directory.old ≡ directory_of blocks.old.items }
-    ensures fault { Checks result (part_fault (names_of blocks.old.items) part.now.lines.now (option_copied part.now.closing)) }
-    ensures blocks { OnOk result (blocks.new.items ≡ blocks.old.items ++ block_of part.now.lines.now) }
+    ensures fault { Checks result
+        (part_fault (names_of blocks.old.items) part.now.lines.now
+        (option_copied part.now.closing)) }
+    ensures blocks { OnOk result
+        (blocks.new.items ≡ blocks.old.items ++ block_of part.now.lines.now) }
     ensures directory { OnOk result (directory.new ≡ directory_of blocks.new.items) }
 {
     if let Some(block) = read_part(alloc, directory, part)? {

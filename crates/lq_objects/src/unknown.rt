@@ -22,7 +22,8 @@ pub(crate) fn unknown_fault(
     directory: &Directory,
     blocks: &[Block<'_, '_>],
 ) -> Result<Option<Fault>, AllocError>
-    ensures { IfOk result (λ fault. fault ≡ first_of (unknown_in_block (known directory.now)) blocks.now) }
+    ensures { IfOk result
+        (λ fault. fault ≡ first_of (unknown_in_block (known directory.now)) blocks.now) }
 {
     for block in blocks {
         if let Some(fault) = unknown_in_block(alloc, directory, block)? {
@@ -77,7 +78,9 @@ fn any_unknown(
     later: &[Line<'_>],
     references: &[Reference],
 ) -> Result<bool, AllocError>
-    ensures { IfOk result (λ unknown. unknown ≡ list_any (names_unknown (known directory.now) line.now later.now) references.now) }
+    ensures { IfOk result
+        (λ unknown. unknown
+        ≡ list_any (names_unknown (known directory.now) line.now later.now) references.now) }
 {
     for reference in references {
         if names_unknown(alloc, directory, line, later, *reference)? {
@@ -95,7 +98,8 @@ fn names_unknown(
     later: &[Line<'_>],
     reference: Reference,
 ) -> Result<bool, AllocError>
-    ensures { IfOk result (λ unknown. unknown ≡ names_unknown (known directory.now) line.now later.now reference) }
+    ensures { IfOk result
+        (λ unknown. unknown ≡ names_unknown (known directory.now) line.now later.now reference) }
 {
     if decides(reference.directive(), line, later) {
         let value = value_of(reference.directive(), line.text());
@@ -126,7 +130,8 @@ fn is_unknown(
     reference: Reference,
     value: &[u8],
 ) -> Result<bool, AllocError>
-    ensures { IfOk result (λ unknown. unknown ≡ is_unknown (known directory.now) reference value.now) }
+    ensures { IfOk result
+        (λ unknown. unknown ≡ is_unknown (known directory.now) reference value.now) }
 {
     let Some(names) = named_in(alloc, reference, value)? else {
         return Ok(true);

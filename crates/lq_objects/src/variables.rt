@@ -38,7 +38,10 @@ fn put(
     values: &mut IndexMap<String, Text>,
     line: &Line<'_>,
 ) -> Result<(), AllocError>
-    ensures { OnOk result (entry_texts values.new.entries ≡ insert_entry bytes_eq (entry_texts values.old.entries) (variable_of line.now).0 (variable_of line.now).1) }
+    ensures { OnOk result
+        (entry_texts values.new.entries
+        ≡ insert_entry bytes_eq (entry_texts values.old.entries) (variable_of line.now).0
+        (variable_of line.now).1) }
 {
     let name = variable_name(line.text());
     let value = clean_text(alloc, value_of(name, line.text()))?;
