@@ -12,3 +12,4 @@ pub mod PlaceLemmas
 pub mod ReadLemmas
 pub mod SoundLemmas
 pub mod VariableLemmas
+pub mod WordLemmas

@@ -1,6 +1,6 @@
 -- The lines of an object file, and the parts that they make.
 use Rattle.std.specs.Prelude.{ℕ, ◌+◌, ◌-◌, ◌==◌, ◌&&◌, ◌||◌, nat_lt, nat_eq, Bool, not, Option, Some, None, List, [], ◌∷◌, length, take, drop, map, filter, find, reverse, bytes_eq, codes, slice_index, if◌then◌else◌}
-use Rattle.std.specs.List.{enumerate_from, list_any, starts_with}
+use Rattle.std.specs.List.{enumerate_from, list_any, prefix_len, starts_with}
 use Rattle.std.specs.Option.{option_map}
 use Rattle.lq_text.specs.Blanks.{is_blank, trimmed}
 use Rattle.lq_text.specs.Lines.{lines_of}
@@ -36,7 +36,7 @@ one_word text =
 abbrev pub is_opening_text : List ℕ → Bool
 is_opening_text text =
     starts_with nat_eq text (codes "define") && is_blank (slice_index text 6)
-        && (slice_index text (length text - 1) == 123)
+    && (slice_index text (length text - 1) == 123)
 
 -- the word of a line that opens a block
 abbrev pub opened_word : List ℕ → Option (List ℕ)
@@ -67,11 +67,19 @@ parts_of (line ∷ lines) =
 
 -- ---- directives
 
+-- how many bytes the word at the front of a text has
+abbrev pub word_length : List ℕ → ℕ
+word_length text = prefix_len (λ byte. not (is_blank byte)) text
+
+-- a word has no blanks
+abbrev pub is_word : List ℕ → Bool
+is_word name = not (list_any is_blank name)
+
 -- a directive's name stands at the front of its line, and a blank or nothing follows it
 abbrev pub is_named : List ℕ → List ℕ → Bool
 is_named name text =
     starts_with nat_eq text name
-        && ((length text == length name) || is_blank (slice_index text (length name)))
+    && ((length text == length name) || is_blank (slice_index text (length name)))
 
 -- its value follows the blanks
 abbrev pub value_of : List ℕ → List ℕ → List ℕ

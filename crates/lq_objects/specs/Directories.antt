@@ -7,8 +7,16 @@ use Rattle.lq_objects.specs.declared.kind.Kind.TheVariants.{Host, Service, HostG
 use Rattle.lq_objects.specs.declared.directory.Directory.{Directory}
 
 abbrev pub empty : Directory
-empty = record { hosts = []; services = []; host_groups = []; service_groups = []; contacts = [];
-    contact_groups = []; periods = []; commands = [] }
+empty = record {
+  hosts = [];
+  services = [];
+  host_groups = [];
+  service_groups = [];
+  contacts = [];
+  contact_groups = [];
+  periods = [];
+  commands = [];
+}
 
 -- the names of a kind
 abbrev pub known : Directory → Kind → List Name

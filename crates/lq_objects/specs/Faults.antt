@@ -30,7 +30,7 @@ first_of f (x ∷ xs) = option_or (f x) (first_of f xs)
 abbrev pub number_in : ℕ → ℕ → List ℕ → Option ℕ
 number_in least most value =
     if nat_lt 0 (length value) && list_all is_ascii_digit value && nat_le least (number_of value)
-        && nat_le (number_of value) most
+    && nat_le (number_of value) most
     then Some (number_of value) else None
 
 -- whether a line is a directive with a number that isn't in its range
@@ -52,8 +52,8 @@ has_numbers kind.Command = false
 abbrev pub is_bad_number : Kind → List ℕ → Bool
 is_bad_number kind text =
     has_numbers kind
-        && (is_bad 1 1000000 (codes "max_check_attempts") text
-        || is_bad 0 1 (codes "notifications_enabled") text)
+    && (is_bad 1 1000000 (codes "max_check_attempts") text
+    || is_bad 0 1 (codes "notifications_enabled") text)
 
 -- `use` and `register` stand in files that aren't flattened
 abbrev pub is_template : List ℕ → Bool
@@ -63,7 +63,7 @@ is_template text = is_named (codes "use") text || is_named (codes "register") te
 abbrev pub directive_fault : Kind → Line → Option Fault
 directive_fault kind line =
     option_or (fault_if (is_template line.text) line.number NotFlattened)
-        (fault_if (is_bad_number kind line.text) line.number BadNumber)
+    (fault_if (is_bad_number kind line.text) line.number BadNumber)
 
 -- the fault of a line in a block that the line `opening` opens; another opening line shows that it
 -- isn't closed
@@ -71,7 +71,7 @@ abbrev pub inner_fault : ℕ → Option Kind → Line → Option Fault
 inner_fault opening None line = fault_if (is_some (opened_word line.text)) opening Unclosed
 inner_fault opening (Some kind) line =
     option_or (fault_if (is_some (opened_word line.text)) opening Unclosed)
-        (directive_fault kind line)
+    (directive_fault kind line)
 
 -- ---- a block's name
 
@@ -112,7 +112,7 @@ abbrev pub opened_fault : (Kind → List Name) → ℕ → Option Kind → List 
     → Option Fault
 opened_fault earlier opening kind lines closing =
     option_or (first_of (inner_fault opening kind) lines)
-        (ending_fault earlier opening kind lines closing)
+    (ending_fault earlier opening kind lines closing)
 
 -- the fault of a block, by the word after `define`
 abbrev pub block_fault : (Kind → List Name) → ℕ → Option (List ℕ) → List Line → Option Line
@@ -144,7 +144,7 @@ abbrev pub parts_fault : List Block → List Part → Option Fault
 parts_fault before [] = None
 parts_fault before (part ∷ parts) =
     option_or (part_fault (names_of before) part.lines part.closing)
-        (parts_fault (before ++ block_of part.lines) parts)
+    (parts_fault (before ++ block_of part.lines) parts)
 
 -- ---- names that aren't there
 
@@ -152,8 +152,8 @@ parts_fault before (part ∷ parts) =
 abbrev pub is_unknown : (Kind → List Name) → Reference → List ℕ → Bool
 is_unknown known reference value =
     option_map_or
-        (λ names. list_any (λ name. is_none (place_of (known (target reference)) name)) names)
-        (named_in reference value) true
+    (λ names. list_any (λ name. is_none (place_of (known (target reference)) name)) names)
+    (named_in reference value) true
 
 -- whether a line is the last one with a directive, so that it decides
 abbrev pub decides : List ℕ → Line → List Line → Bool
@@ -170,8 +170,8 @@ abbrev pub unknown_in : (Kind → List Name) → Kind → List Line → Option F
 unknown_in known kind [] = None
 unknown_in known kind (line ∷ later) =
     option_or
-        (fault_if (list_any (names_unknown known line later) (references kind)) line.number UnknownName)
-        (unknown_in known kind later)
+    (fault_if (list_any (names_unknown known line later) (references kind)) line.number UnknownName)
+    (unknown_in known kind later)
 
 abbrev pub unknown_in_block : (Kind → List Name) → Block → Option Fault
 unknown_in_block known block = unknown_in known block.kind block.lines

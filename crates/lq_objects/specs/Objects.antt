@@ -37,7 +37,7 @@ distinct (x ∷ xs) = x ∷ filter (λ y. not (nat_eq x y)) (distinct xs)
 abbrev pub places_in : (Kind → List Name) → Reference → List ℕ → List ℕ
 places_in known reference value =
     distinct (filter_map (place_of (known (target reference)))
-        (unwrap_or (named_in reference value) []))
+    (unwrap_or (named_in reference value) []))
 
 -- the places of the objects that a block's directive names
 abbrev pub places : (Kind → List Name) → Reference → List Line → List ℕ

@@ -4,7 +4,6 @@ ghost use Rattle.lq_objects.specs.Checks.{Checks, with_blocks};
 ghost use Rattle.lq_objects.specs.Directories.{known, with_name};
 ghost use Rattle.lq_objects.specs.Faults.{block_of, directive_fault, first_of, has_separator, inner_fault, is_bad_name, known_block, lacks_name, name_fault, opened_fault, part_fault};
 ghost use Rattle.lq_names.specs.Names.{place_of};
-ghost use Rattle.lq_objects.specs.Names.{name_of as named};
 
 use crate::block::Block;
 use crate::directive::{is_bad_number, is_template};
@@ -39,67 +38,72 @@ pub(crate) fn read_part<'p, 'a>(
     let Some(word) = opening.opened_word() else {
         return Err(opening.fault(ObjectsWhat::Stray));
     };
-    read_opened(
-        alloc,
-        directory,
-        opening.number(),
-        Kind::named(word),
+    let opened = Opened {
+        opening: opening.number(),
+        kind: Kind::named(word),
         lines,
-        part.closing,
-    )
+        closing: part.closing,
+    };
+    opened.read(alloc, directory)
 }
 
-/// The block that the line `opening` opens, where its kind is known, or the first fault in it.
-fn read_opened<'p, 'a>(
-    alloc: Global,
-    directory: &mut Directory,
+/// A block that a line opens: that line's number, the kind where it is known, the lines in the
+/// block, and the line that closes it.
+#[derive(Drop)]
+struct Opened<'p, 'a> {
     opening: u64,
     kind: Option<Kind>,
     lines: &'p [Line<'a>],
-    closing: Option<&Line<'a>>,
-) -> Result<Option<Block<'p, 'a>>, ObjectsErr>
-    ensures fault { Checks result
-        (opened_fault (known directory.old) opening kind lines.now (option_copied closing.entry)) }
-    ensures block { IfOk result (λ block. option_to_list block ≡ known_block kind lines.now) }
-    ensures directory { IfOk result
-        (λ block. directory.new ≡ with_blocks directory.old (option_to_list block)) }
-{
-    if let Some(fault) = lines_fault(opening, kind, lines) {
-        return Err(fault.error());
-    }
-    let Some(closing) = closing else {
-        return Err(ObjectsErr::At {
-            line: opening,
-            what: ObjectsWhat::Unclosed,
-        });
-    };
-    let Some(kind) = kind else {
-        return Ok(None);
-    };
-    let block = read_block(alloc, directory, kind, lines, closing)?;
-    Ok(Some(block))
+    closing: Option<&'p Line<'a>>,
 }
 
-/// A block that is closed, or the fault of its object's name.
-fn read_block<'p, 'a>(
-    alloc: Global,
+impl<'p, 'a> Opened<'p, 'a> {
+    /// The block, where its kind is known, or the first fault in it.
+    fn read(
+        &self,
+        alloc: Global,
+        directory: &mut Directory,
+    ) -> Result<Option<Block<'p, 'a>>, ObjectsErr>
+        ensures fault { Checks result (opened_fault (known directory.old) self.now.opening
+            self.now.kind self.now.lines.now (option_copied self.now.closing)) }
+        ensures block { IfOk result
+            (λ block. option_to_list block ≡ known_block self.now.kind self.now.lines.now) }
+        ensures directory { IfOk result
+            (λ block. directory.new ≡ with_blocks directory.old (option_to_list block)) }
+    {
+        if let Some(fault) = lines_fault(self.opening, self.kind, self.lines) {
+            return Err(fault.error());
+        }
+        let Some(closing) = self.closing else {
+            return Err(ObjectsErr::At {
+                line: self.opening,
+                what: ObjectsWhat::Unclosed,
+            });
+        };
+        let Some(kind) = self.kind else {
+            return Ok(None);
+        };
+        let name = name_of(alloc, kind, self.lines).map_err(ObjectsErr::Memory)?;
+        add_name(directory, kind, name, closing)?;
+        Ok(Some(Block::new(kind, self.lines)))
+    }
+}
+
+/// Adds the name of an object whose block is closed to those of its kind, unless it is at fault.
+fn add_name(
     directory: &mut Directory,
     kind: Kind,
-    lines: &'p [Line<'a>],
-    closing: &Line<'a>,
-) -> Result<Block<'p, 'a>, ObjectsErr>
+    name: Name,
+    closing: &Line<'_>,
+) -> Result<(), ObjectsErr>
     ensures fault { Checks result
-        (name_fault kind (known directory.old kind) (named kind lines.now) closing.now.number) }
-    ensures block { IfOk result (λ block. block ≡ record { kind = kind; lines = lines.now }) }
-    ensures directory { OnOk result
-        (directory.new ≡ with_name directory.old kind (named kind lines.now)) }
+        (name_fault kind (known directory.old kind) name closing.now.number) }
+    ensures directory { OnOk result (directory.new ≡ with_name directory.old kind name) }
 {
-    let name = name_of(alloc, kind, lines).map_err(ObjectsErr::Memory)?;
     if let Some(what) = name_fault(kind, directory.of(kind), &name) {
         return Err(closing.fault(what));
     }
-    directory.push(kind, name).map_err(ObjectsErr::Memory)?;
-    Ok(Block::new(kind, lines))
+    directory.push(kind, name).map_err(ObjectsErr::Memory)
 }
 
 /// The first fault of the lines in a block.
@@ -131,9 +135,9 @@ fn inner_fault(opening: u64, kind: Option<Kind>, line: &Line<'_>) -> Option<Faul
 fn directive_fault(kind: Kind, line: &Line<'_>) -> Option<Fault>
     ensures { result ≡ directive_fault kind line.now }
 {
-    let what = if is_template(line.text()) {
+    let what = if is_template(line) {
         ObjectsWhat::NotFlattened
-    } else if is_bad_number(kind, line.text()) {
+    } else if is_bad_number(kind, line) {
         ObjectsWhat::BadNumber
     } else {
         return None;

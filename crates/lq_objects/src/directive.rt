@@ -1,33 +1,16 @@
-ghost use Rattle.std.specs.Prelude.{◌≡◌, ◌<◌, ◌==◌, ◌||◌, length, slice_index};
+ghost use Rattle.std.specs.Prelude.{◌≡◌, IsTrue};
 ghost use Rattle.std.specs.List.{starts_with};
 ghost use Rattle.std.specs.Option.{option_copied};
-ghost use Rattle.lq_text.specs.Blanks.{is_blank};
-ghost use Rattle.lq_objects.specs.Blocks.{directive, is_named, value_of};
+ghost use Rattle.lq_objects.specs.Blocks.{directive, is_word, value_of};
 ghost use Rattle.lq_objects.specs.Faults.{is_bad, is_bad_number, is_template, number_in};
-ghost use Rattle.lq_objects.specs.Objects.{is_variable, variable_name};
+ghost use Rattle.lq_objects.specs.Objects.{is_variable};
 
 use crate::kind::Kind;
 use crate::line::Line;
-use lq_text::{is_blank, read_u64, trim};
+use lq_text::{read_u64, trim};
 
 /// The most checks that may have to find an object in trouble. One more is a bad number.
 pub(crate) const MOST_ATTEMPTS: u32 = 1_000_000;
-
-/// Whether a line is the directive with a name. Where the name would end is looked at first, since
-/// nearly every other directive fails there, at one byte.
-pub(crate) fn is_named(name: &[u8], text: &[u8]) -> bool
-    ensures { result ≡ is_named name.now text.now }
-{
-    ends_word(text, name.len()) && text.starts_with(name)
-}
-
-/// Whether a word that begins a line may end at a place: the line ends there, or a blank stands
-/// there.
-fn ends_word(text: &[u8], at: usize) -> bool
-    ensures { result ≡ ((length text.now == at) || is_blank (slice_index text.now at)) }
-{
-    text.len() == at || (at < text.len() && is_blank(text[at]))
-}
 
 /// The value of a directive's line.
 pub(crate) fn value_of<'a>(name: &[u8], text: &'a [u8]) -> &'a [u8]
@@ -38,12 +21,13 @@ pub(crate) fn value_of<'a>(name: &[u8], text: &'a [u8]) -> &'a [u8]
 
 /// The value of the directive with a name. Of several the last decides.
 pub(crate) fn directive<'a>(name: &[u8], lines: &[Line<'a>]) -> Option<&'a [u8]>
+    requires { IsTrue (is_word name.now) }
     ensures { option_copied result ≡ directive name.now lines.now }
 {
     lines
         .iter()
         .rev()
-        .find(|line| is_named(name, line.text()))
+        .find(|line| line.is_named(name))
         .map(|line| value_of(name, line.text()))
 }
 
@@ -60,26 +44,27 @@ pub(crate) fn number_in(least: u32, most: u32, value: &[u8]) -> Option<u32>
 }
 
 /// Whether a line is a directive with a number that isn't in its range.
-fn is_bad(least: u32, most: u32, name: &[u8], text: &[u8]) -> bool
-    ensures { result ≡ is_bad least most name.now text.now }
+fn is_bad(least: u32, most: u32, name: &[u8], line: &Line<'_>) -> bool
+    requires { IsTrue (is_word name.now) }
+    ensures { result ≡ is_bad least most name.now line.now.text }
 {
-    is_named(name, text) && number_in(least, most, value_of(name, text)).is_none()
+    line.is_named(name) && number_in(least, most, value_of(name, line.text())).is_none()
 }
 
 /// Whether a line in a block of a kind has a number that isn't in its range.
-pub(crate) fn is_bad_number(kind: Kind, text: &[u8]) -> bool
-    ensures { result ≡ is_bad_number kind text.now }
+pub(crate) fn is_bad_number(kind: Kind, line: &Line<'_>) -> bool
+    ensures { result ≡ is_bad_number kind line.now.text }
 {
     kind.has_numbers()
-        && (is_bad(1, MOST_ATTEMPTS, b"max_check_attempts", text)
-            || is_bad(0, 1, b"notifications_enabled", text))
+        && (is_bad(1, MOST_ATTEMPTS, b"max_check_attempts", line)
+            || is_bad(0, 1, b"notifications_enabled", line))
 }
 
 /// Whether a line stands in files that aren't flattened alone.
-pub(crate) fn is_template(text: &[u8]) -> bool
-    ensures { result ≡ is_template text.now }
+pub(crate) fn is_template(line: &Line<'_>) -> bool
+    ensures { result ≡ is_template line.now.text }
 {
-    is_named(b"use", text) || is_named(b"register", text)
+    line.is_named(b"use") || line.is_named(b"register")
 }
 
 /// Whether a line is a custom variable.
@@ -87,15 +72,4 @@ pub(crate) fn is_variable(text: &[u8]) -> bool
     ensures { result ≡ is_variable text.now }
 {
     text.starts_with(b"_".as_slice())
-}
-
-/// The name of a custom variable.
-pub(crate) fn variable_name(text: &[u8]) -> &[u8]
-    ensures { result.now ≡ variable_name text.now }
-{
-    let mut end = 0;
-    'name: while end < text.len() && !is_blank(text[end]) {
-        end += 1;
-    }
-    &text[..end]
 }

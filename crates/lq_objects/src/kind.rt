@@ -1,5 +1,6 @@
-ghost use Rattle.std.specs.Prelude.{◌≡◌};
+ghost use Rattle.std.specs.Prelude.{◌≡◌, IfSome, IsTrue};
 ghost use Rattle.std.specs.Option.{option_copied};
+ghost use Rattle.lq_objects.specs.Blocks.{is_word};
 ghost use Rattle.lq_objects.specs.Faults.{has_numbers};
 ghost use Rattle.lq_objects.specs.Kinds.{kind_named, limit, name_directive, reference_directive, references, second_directive, target};
 
@@ -79,7 +80,8 @@ impl Kind {
 
     /// The directive with an object's name.
     pub(crate) fn name_directive(self) -> &'static [u8]
-        ensures { result.now ≡ name_directive self }
+        ensures value { result.now ≡ name_directive self }
+        ensures word { IsTrue (is_word result.now) }
     {
         match self {
             Kind::Host | Kind::Service => b"host_name".as_slice(),
@@ -94,7 +96,8 @@ impl Kind {
 
     /// The directive with the second part of an object's name, where it has one.
     pub(crate) fn second_directive(self) -> Option<&'static [u8]>
-        ensures { option_copied result ≡ second_directive self }
+        ensures value { option_copied result ≡ second_directive self }
+        ensures word { IfSome result (λ name. IsTrue (is_word name.now)) }
     {
         match self {
             Kind::Service => Some(b"service_description".as_slice()),
@@ -165,7 +168,8 @@ pub(crate) enum Reference {
 impl Reference {
     /// The directive's name.
     pub(crate) fn directive(self) -> &'static [u8]
-        ensures { result.now ≡ reference_directive self }
+        ensures value { result.now ≡ reference_directive self }
+        ensures word { IsTrue (is_word result.now) }
     {
         match self {
             Reference::Parents => b"parents".as_slice(),

@@ -1,8 +1,9 @@
-ghost use Rattle.std.specs.Prelude.{◌≡◌, ℕ, IsTrue, ◌<◌, ◌&&◌, IfOk, length};
+ghost use Rattle.std.specs.Prelude.{◌≡◌, ℕ, IsTrue, ◌<◌, ◌≤◌, ◌^◌, ◌&&◌, IfOk, length};
 ghost use Rattle.std.specs.List.{list_any};
 ghost use Rattle.std.specs.Option.{option_copied};
 ghost use Rattle.lq_text.specs.Blanks.{is_blank};
-ghost use Rattle.lq_objects.specs.Blocks.{is_closing, is_opening_text, is_telling, one_word, opened_word, telling_lines};
+ghost use Rattle.lq_objects.specs.Blocks.{is_closing, is_named, is_opening_text, is_telling, is_word, one_word, opened_word, telling_lines, word_length};
+ghost use Rattle.lq_objects.specs.Objects.{variable_name};
 ghost use Rattle.lq_objects.specs.declared.fault.ObjectsErr.TheVariants.{At};
 
 use crate::fault::{ObjectsErr, ObjectsWhat};
@@ -10,33 +11,47 @@ use lq_text::{is_blank, next_line, trim};
 use std::alloc::{AllocError, Global};
 use std::marker::Model;
 
+/// The most bytes that a file may have, so that a `u32` holds each line's number and each word's
+/// length. A longer file is answered as memory that ran out.
+const MOST_BYTES: usize = 0xFFFF_FFFF;
+
+/// How many bytes a line has, about.
+const BYTES_A_LINE: usize = 24;
+
 /// A line that says something: its number in the file, from 1, and its text without the blanks at
 /// both ends.
 #[derive(Drop)]
 pub(crate) struct Line<'a> {
-    number: u64,
+    number: u32,
+    /// How many bytes the word at the front has: the name of the directive that the line is.
+    word: u32,
     text: &'a [u8],
 }
 
 impl<'a> Model for Line<'a> {
-    ghost use Rattle.lq_objects.specs.Blocks.{Line};
+    ghost use Rattle.std.specs.Prelude.{◌≡◌};
+    ghost use Rattle.lq_objects.specs.Blocks.{Line, word_length};
 
     ghost Value = { Line };
 
     ghost view = { λ line. record { number = line.number; text = line.text.now } };
+
+    ghost invariant = { λ line. line.word ≡ word_length line.text.now };
 }
 
 impl<'a> Line<'a> {
-    pub(crate) fn new(number: u64, text: &'a [u8]) -> Self
+    pub(crate) fn new(number: u32, text: &'a [u8]) -> Self
+        requires { length text.now < 2 ^ 32 }
         ensures { result ≡ record { number = number; text = text.now } }
     {
-        Line { number, text }
+        let word = word_length(text) as u32;
+        Line { number, word, text }
     }
 
     pub(crate) fn number(&self) -> u64
         ensures { result ≡ self.now.number }
     {
-        self.number
+        u64::from(self.number)
     }
 
     pub(crate) fn text(&self) -> &'a [u8]
@@ -50,9 +65,24 @@ impl<'a> Line<'a> {
         ensures { result ≡ At self.now.number what }
     {
         ObjectsErr::At {
-            line: self.number,
+            line: self.number(),
             what,
         }
+    }
+
+    /// Whether the line is the directive with a name.
+    pub(crate) fn is_named(&self, name: &[u8]) -> bool
+        requires { IsTrue (is_word name.now) }
+        ensures { result ≡ is_named name.now self.now.text }
+    {
+        self.word as usize == name.len() && self.text.starts_with(name)
+    }
+
+    /// The word at the front.
+    pub(crate) fn word(&self) -> &'a [u8]
+        ensures { result.now ≡ variable_name self.now.text }
+    {
+        &self.text[..self.word as usize]
     }
 
     /// Whether the line closes a block.
@@ -74,7 +104,10 @@ impl<'a> Line<'a> {
 pub(crate) fn telling_lines(alloc: Global, b: &[u8]) -> Result<Vec<Line<'_>>, AllocError>
     ensures { IfOk result (λ lines. lines.items ≡ telling_lines b.now) }
 {
-    let mut lines = Vec::new(alloc);
+    if b.len() > MOST_BYTES {
+        return Err(AllocError);
+    }
+    let mut lines = Vec::with_capacity(alloc, b.len() / BYTES_A_LINE)?;
     let mut at = 0;
     let mut number = 0;
     'lines: while let Some((end, next)) = next_line(b, at) {
@@ -86,6 +119,18 @@ pub(crate) fn telling_lines(alloc: Global, b: &[u8]) -> Result<Vec<Line<'_>>, Al
         at = next;
     }
     Ok(lines)
+}
+
+/// How many bytes the word at the front has.
+fn word_length(text: &[u8]) -> usize
+    ensures value { result ≡ word_length text.now }
+    ensures within { result ≤ length text.now }
+{
+    let mut end = 0;
+    'word: while end < text.len() && !is_blank(text[end]) {
+        end += 1;
+    }
+    end
 }
 
 /// Whether a text says something: it isn't empty and doesn't begin with `#`.

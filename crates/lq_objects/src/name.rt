@@ -1,4 +1,5 @@
-ghost use Rattle.std.specs.Prelude.{◌≡◌, IfOk};
+ghost use Rattle.std.specs.Prelude.{◌≡◌, [], IfOk, IsTrue};
+ghost use Rattle.lq_objects.specs.Blocks.{is_word};
 ghost use Rattle.lq_objects.specs.Names.{name_of, text_or};
 
 use crate::directive::directive;
@@ -6,7 +7,6 @@ use crate::kind::{Kind, Reference};
 use crate::line::Line;
 use lq_names::Name;
 use lq_records::{Text, clean_text};
-use lq_text::trim;
 use std::alloc::{AllocError, Global};
 
 /// The text of a directive, or another text where it is absent.
@@ -16,6 +16,7 @@ pub(crate) fn text_or(
     name: &[u8],
     lines: &[Line<'_>],
 ) -> Result<Text, AllocError>
+    requires { IsTrue (is_word name.now) }
     ensures { IfOk result (λ text. text ≡ text_or absent.now name.now lines.now) }
 {
     match directive(name, lines) {
@@ -24,14 +25,25 @@ pub(crate) fn text_or(
     }
 }
 
+/// The text of a directive, empty where it is absent.
+pub(crate) fn text_of(alloc: Global, name: &[u8], lines: &[Line<'_>]) -> Result<Text, AllocError>
+    requires { IsTrue (is_word name.now) }
+    ensures { IfOk result (λ text. text ≡ text_or [] name.now lines.now) }
+{
+    match directive(name, lines) {
+        Some(value) => clean_text(alloc, value),
+        None => Ok(Text::empty(alloc)),
+    }
+}
+
 /// The name that a block's directives give its object, an absent one being empty.
 pub(crate) fn name_of(alloc: Global, kind: Kind, lines: &[Line<'_>]) -> Result<Name, AllocError>
     ensures { IfOk result (λ name. name ≡ name_of kind lines.now) }
 {
-    let first = text_or(alloc, "", kind.name_directive(), lines)?;
+    let first = text_of(alloc, kind.name_directive(), lines)?;
     let second = match kind.second_directive() {
-        Some(name) => text_or(alloc, "", name, lines)?,
-        None => Text::new(alloc, "")?,
+        Some(name) => text_of(alloc, name, lines)?,
+        None => Text::empty(alloc),
     };
     Ok(Name::new(first, second))
 }

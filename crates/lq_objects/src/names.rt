@@ -1,12 +1,12 @@
 ghost use Rattle.std.specs.Prelude.{◌≡◌, ◌==◌, ◌∷◌, [], IfOk, filter, map};
 ghost use Rattle.std.specs.Option.{option_map};
 ghost use Rattle.lq_records.specs.Clean.{cleaned};
-ghost use Rattle.lq_names.specs.Names.{single};
+ghost use Rattle.lq_names.specs.Names.{place_of, single};
 ghost use Rattle.lq_objects.specs.Names.{elements, named_in, pairs_of, pieces_of};
 ghost use Rattle.lq_objects.specs.Views.{texts};
 
 use crate::kind::Reference;
-use lq_names::Name;
+use lq_names::{Name, NameIndex};
 use lq_records::clean_text;
 use lq_text::trim;
 use std::alloc::{AllocError, Global};
@@ -40,6 +40,18 @@ fn pieces(alloc: Global, value: &[u8]) -> Result<Vec<&[u8]>, AllocError>
         .map(|piece| trim(piece))
         .filter(|piece| !piece.is_empty())
         .collect(alloc)
+}
+
+/// The place of the object that a value names as a whole. None where it isn't there.
+pub(crate) fn place_of_whole(
+    alloc: Global,
+    index: &NameIndex,
+    value: &[u8],
+) -> Result<Option<u32>, AllocError>
+    ensures { IfOk result (λ place. place ≡ place_of index.now (single (cleaned value.now))) }
+{
+    let name = Name::single(alloc, clean_text(alloc, value)?);
+    Ok(index.find(&name))
 }
 
 /// A value that is one name.

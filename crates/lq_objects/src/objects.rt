@@ -1,5 +1,6 @@
-ghost use Rattle.std.specs.Prelude.{◌≡◌, ◌≤◌, List, [], IfOk, map};
+ghost use Rattle.std.specs.Prelude.{◌≡◌, ◌≤◌, List, [], IfOk, IsTrue, map};
 ghost use Rattle.lq_names.specs.Names.{Name};
+ghost use Rattle.lq_objects.specs.Blocks.{is_word};
 ghost use Rattle.lq_objects.specs.Directories.{known};
 ghost use Rattle.lq_objects.specs.Names.{text_or};
 ghost use Rattle.lq_objects.specs.Objects.{command_of, contact_group_of, contact_of, fields_of};
@@ -11,8 +12,8 @@ use crate::directive::{MOST_ATTEMPTS, directive, number_in};
 use crate::directory::Directory;
 use crate::kind::{Kind, Reference};
 use crate::line::Line;
-use crate::name::text_or;
-use crate::places::{host_place, ids_at, places};
+use crate::name::{text_of, text_or};
+use crate::places::{host_place, ids};
 use crate::variables::custom_variables;
 use lq_records::{
     Base, Command, Contact, ContactGroup, Host, HostGroup, Id, Items, ObjectFields, Period, Rules,
@@ -210,13 +211,15 @@ impl<'r, 'a> Reader<'r, 'a> {
 
     /// The text of a directive, empty where it is absent.
     fn text(&self, name: &[u8]) -> Result<Text, AllocError>
+        requires { IsTrue (is_word name.now) }
         ensures { IfOk result (λ text. text ≡ text_or [] name.now self.now.lines.now) }
     {
-        text_or(self.alloc, "", name, self.lines)
+        text_of(self.alloc, name, self.lines)
     }
 
     /// The text of a directive, or another text where it is absent.
     fn text_or(&self, absent: &str, name: &[u8]) -> Result<Text, AllocError>
+        requires { IsTrue (is_word name.now) }
         ensures { IfOk result (λ text. text ≡ text_or absent.now name.now self.now.lines.now) }
     {
         text_or(self.alloc, absent, name, self.lines)
@@ -227,19 +230,18 @@ impl<'r, 'a> Reader<'r, 'a> {
         ensures { IfOk result (λ ids. ids
             ≡ map T.id_at (places (known self.now.directory.now) reference self.now.lines.now)) }
     {
-        let places = places(self.alloc, self.directory, reference, self.lines)?;
-        ids_at(self.alloc, places.as_slice())
+        ids(self.alloc, self.directory, reference, self.lines)
     }
 }
 
 /// The number of a directive that is in its range, or 1 in its absence.
 fn number_or_one(least: u32, most: u32, name: &[u8], lines: &[Line<'_>]) -> u32
-    requires { 1 ≤ most }
+    requires one { 1 ≤ most }
+    requires word { IsTrue (is_word name.now) }
     ensures value { result ≡ number_or 1 least most name.now lines.now }
     ensures within { result ≤ most }
 {
-    match directive(name, lines) {
-        Some(value) => number_in(least, most, value).unwrap_or(1),
-        None => 1,
-    }
+    directive(name, lines)
+        .and_then(|value| number_in(least, most, value))
+        .unwrap_or(1)
 }

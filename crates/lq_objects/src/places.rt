@@ -1,36 +1,50 @@
 ghost use Rattle.std.specs.Prelude.{◌≡◌, IfOk, map};
 ghost use Rattle.std.specs.List.{filter_map};
+ghost use Rattle.std.specs.Option.{option_to_list};
 ghost use Rattle.lq_objects.specs.Directories.{known};
 ghost use Rattle.lq_names.specs.Names.{place_of};
 ghost use Rattle.lq_objects.specs.Objects.{distinct, host_place, places};
 
 use crate::directive::directive;
 use crate::directory::Directory;
-use crate::kind::Reference;
+use crate::kind::{Kind, Reference};
 use crate::line::Line;
-use crate::names::named_in;
+use crate::names::{named_in, place_of_whole};
 use indexmap::IndexSet;
 use lq_names::{Name, NameIndex};
 use lq_records::{HostId, Id, Items};
 use std::alloc::{AllocError, Global};
 
-/// The places of the objects that a block's directive names, in order and without repeats.
-pub(crate) fn places(
+/// The objects that a block's directive names, in order and without repeats.
+pub(crate) fn ids<T: Id>(
     alloc: Global,
     directory: &Directory,
     reference: Reference,
     lines: &[Line<'_>],
-) -> Result<IndexSet<u32>, AllocError>
-    ensures { IfOk result (λ found. found.keys ≡ places (known directory.now) reference lines.now) }
+) -> Result<Items<T>, AllocError>
+    ensures { IfOk result
+        (λ ids. ids ≡ map T.id_at (places (known directory.now) reference lines.now)) }
 {
     let names = match directive(reference.directive(), lines) {
         Some(value) => named_in(alloc, reference, value)?,
         None => None,
     };
     match names {
-        Some(names) => places_of(alloc, directory.of(reference.target()), &names),
-        None => Ok(IndexSet::new(alloc)),
+        Some(names) => ids_of(alloc, directory.of(reference.target()), &names),
+        None => Ok(Items::new(alloc)),
     }
+}
+
+/// The objects that have names, in order and without repeats.
+fn ids_of<T: Id>(alloc: Global, index: &NameIndex, names: &[Name]) -> Result<Items<T>, AllocError>
+    ensures { IfOk result
+        (λ ids. ids ≡ map T.id_at (distinct (filter_map (place_of index.now) names.now))) }
+{
+    if names.len() == 1 {
+        return id_at(alloc, index.find(&names[0]));
+    }
+    let places = places_of(alloc, index, names)?;
+    ids_at(alloc, places.as_slice())
 }
 
 /// The places of names that are there, in order and without repeats.
@@ -58,15 +72,30 @@ pub(crate) fn host_place(
     ensures { IfOk result (λ id. id
         ≡ record { 0 = host_place (places (known directory.now) Reference.ServiceHost lines.now) }) }
 {
-    let places = places(alloc, directory, Reference::ServiceHost, lines)?;
-    Ok(match places.as_slice().first() {
-        Some(place) => HostId(*place),
-        None => HostId(0),
-    })
+    let Some(value) = directive(b"host_name", lines) else {
+        return Ok(HostId(0));
+    };
+    Ok(
+        match place_of_whole(alloc, directory.of(Kind::Host), value)? {
+            Some(place) => HostId(place),
+            None => HostId(0),
+        },
+    )
+}
+
+/// The id of the object at a place, where there is one.
+fn id_at<T: Id>(alloc: Global, place: Option<u32>) -> Result<Items<T>, AllocError>
+    ensures { IfOk result (λ ids. ids ≡ map T.id_at (option_to_list place)) }
+{
+    let mut ids = Items::new(alloc);
+    if let Some(place) = place {
+        ids.push(T::at(place))?;
+    }
+    Ok(ids)
 }
 
 /// The ids of the objects at places.
-pub(crate) fn ids_at<T: Id>(alloc: Global, places: &[u32]) -> Result<Items<T>, AllocError>
+fn ids_at<T: Id>(alloc: Global, places: &[u32]) -> Result<Items<T>, AllocError>
     ensures { IfOk result (λ ids. ids ≡ map T.id_at places.now) }
 {
     let ids: Vec<T> = places.iter().map(|place| T::at(*place)).collect(alloc)?;

@@ -3,7 +3,7 @@ ghost use Rattle.indexmap.specs.IndexMap.{insert_entry};
 ghost use Rattle.lq_objects.specs.Objects.{custom_variables, variable_of};
 ghost use Rattle.lq_objects.specs.Views.{entry_texts};
 
-use crate::directive::{is_variable, value_of, variable_name};
+use crate::directive::{is_variable, value_of};
 use crate::line::Line;
 use indexmap::IndexMap;
 use lq_records::{Items, Text, clean_text};
@@ -43,7 +43,7 @@ fn put(
         ≡ insert_entry bytes_eq (entry_texts values.old.entries) (variable_of line.now).0
         (variable_of line.now).1) }
 {
-    let name = variable_name(line.text());
+    let name = line.word();
     let value = clean_text(alloc, value_of(name, line.text()))?;
     let name = clean_text(alloc, name)?;
     match values.insert(name.into_string(), value) {

@@ -1,7 +1,0 @@
-use Rattle.std.proofs.Common.{◌≡◌, drop}
-use Rattle.lq_objects.specs.Directories.{known}
-use Rattle.lq_objects.specs.Faults.{unknown_in}
-use Rattle.lq_objects.proofs.unknown.unknown_in.Given as goal
-
-abbrev pub invariant-loop-i : goal.invariant-loop-i
-invariant-loop-i l = unknown_in (known l.directory) l.kind (drop l.i l.lines) ≡ unknown_in (known l.directory) l.kind l.lines
