@@ -2,7 +2,8 @@ ghost use Rattle.std.specs.Prelude.{◌≡◌, ℕ, IsTrue, ◌<◌, ◌≤◌, 
 ghost use Rattle.std.specs.List.{list_any};
 ghost use Rattle.std.specs.Option.{option_copied};
 ghost use Rattle.lq_text.specs.Blanks.{is_blank};
-ghost use Rattle.lq_objects.specs.Blocks.{is_closing, is_named, is_opening_text, is_telling, is_word, one_word, opened_word, telling_lines, word_length};
+ghost use Rattle.lq_objects.specs.Blocks.{is_closing, is_named, is_opening_text, is_telling};
+ghost use Rattle.lq_objects.specs.Blocks.{is_word, one_word, opened_word, telling_lines, word_length};
 ghost use Rattle.lq_objects.specs.Objects.{variable_name};
 ghost use Rattle.lq_objects.specs.declared.fault.ObjectsErr.TheVariants.{At};
 
@@ -12,7 +13,7 @@ use std::alloc::{AllocError, Global};
 use std::marker::Model;
 
 /// The most bytes that a file may have, so that a `u32` holds each line's number and each word's
-/// length. A longer file is answered as memory that ran out.
+/// length. A larger one is answered as memory that ran out.
 const MOST_BYTES: usize = 0xFFFF_FFFF;
 
 /// How many bytes a line has, about.
@@ -40,6 +41,7 @@ impl<'a> Model for Line<'a> {
 }
 
 impl<'a> Line<'a> {
+    /// A line, whose text is shorter than 2 ^ 32 bytes.
     pub(crate) fn new(number: u32, text: &'a [u8]) -> Self
         requires { length text.now < 2 ^ 32 }
         ensures { result ≡ record { number = number; text = text.now } }

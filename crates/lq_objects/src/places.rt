@@ -69,8 +69,9 @@ pub(crate) fn host_place(
     directory: &Directory,
     lines: &[Line<'_>],
 ) -> Result<HostId, AllocError>
-    ensures { IfOk result (λ id. id
-        ≡ record { 0 = host_place (places (known directory.now) Reference.ServiceHost lines.now) }) }
+    ensures { IfOk result (λ id. id ≡ record {
+      0 = host_place (places (known directory.now) Reference.ServiceHost lines.now);
+    }) }
 {
     let Some(value) = directive(b"host_name", lines) else {
         return Ok(HostId(0));

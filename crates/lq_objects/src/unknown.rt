@@ -42,6 +42,7 @@ struct Finder<'d> {
 }
 
 impl<'d> Finder<'d> {
+    /// The first line of a block that names what isn't there.
     fn unknown_in_block(&self, block: &Block<'_, '_>) -> Result<Option<Fault>, AllocError>
         ensures { IfOk result
             (λ fault. fault ≡ unknown_in_block (known self.now.directory.now) block.now) }
@@ -49,7 +50,7 @@ impl<'d> Finder<'d> {
         self.unknown_in(block.kind(), block.lines())
     }
 
-    /// The first line of a block that names what isn't there.
+    /// The same, by the block's kind and lines.
     fn unknown_in(&self, kind: Kind, lines: &[Line<'_>]) -> Result<Option<Fault>, AllocError>
         ensures { IfOk result
             (λ fault. fault ≡ unknown_in (known self.now.directory.now) kind lines.now) }
