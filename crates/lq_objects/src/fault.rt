@@ -49,6 +49,11 @@ impl ObjectsWhat {
 }
 
 impl Display for ObjectsWhat {
+    ghost use Rattle.std.specs.Prelude.{Some};
+    ghost use Rattle.lq_objects.specs.Reading.{what_text};
+
+    ghost output = { λ what. Some (what_text what) };
+
     fn fmt<W: Write>(&self, f: &mut Formatter<W>) -> fmt::Result {
         f.write_str(self.text())
     }
