@@ -51,8 +51,10 @@ object_cell base about fields object_column.Notes = Words fields.notes
 object_cell base about fields object_column.NotesUrl = Words fields.notes_url
 object_cell base about fields object_column.ActionUrl = Words fields.action_url
 object_cell base about fields object_column.IconImage = Words fields.icon_image
-object_cell base about fields object_column.Contacts = Texts (contact_names_of base (contacts_of base fields))
-object_cell base about fields object_column.ContactGroups = Texts (contact_group_names_of base fields.contact_groups)
+object_cell base about fields object_column.Contacts =
+    Texts (contact_names_of base (contacts_of base fields))
+object_cell base about fields object_column.ContactGroups =
+    Texts (contact_group_names_of base fields.contact_groups)
 object_cell base about fields object_column.Groups = Texts (group_names_of base about)
 object_cell base about fields object_column.CustomVariableNames = Texts (variable_names_of fields)
 object_cell base about fields object_column.CustomVariableValues = Texts (variable_values_of fields)
@@ -62,18 +64,25 @@ object_cell base about fields object_column.CustomVariableValues = Texts (variab
 -- the state where it is hard, else the last one that was; being well is hard at once
 abbrev pub hard_state : Status → ℤ
 hard_state status =
-    if int_eq status.state (pos 0) then pos 0 else if status.state_type == 1 then status.state else status.last_hard_state
+    if int_eq status.state (pos 0) then pos 0
+    else if status.state_type == 1 then status.state
+    else status.last_hard_state
 
 -- how many downtimes of the object hold
 abbrev pub depth_of : State → Object → ℕ
-depth_of s about = length (filter (λ downtime. downtime.active && is_same_object downtime.object about) s.downtimes)
+depth_of s about =
+    length
+    (filter (λ downtime. downtime.active && is_same_object downtime.object about) s.downtimes)
 
 -- the ids of the object's downtimes, whether they hold or not
 abbrev pub downtime_ids_of : State → Object → List ℕ
-downtime_ids_of s about = map (λ downtime. downtime.id) (filter (λ downtime. is_same_object downtime.object about) s.downtimes)
+downtime_ids_of s about =
+    map (λ downtime. downtime.id)
+    (filter (λ downtime. is_same_object downtime.object about) s.downtimes)
 
 abbrev pub comment_ids_of : State → Object → List ℕ
-comment_ids_of s about = map (λ comment. comment.id) (filter (λ comment. is_same_object comment.object about) s.comments)
+comment_ids_of s about =
+    map (λ comment. comment.id) (filter (λ comment. is_same_object comment.object about) s.comments)
 
 abbrev pub status_cell : State → Object → Status → StatusColumn → Value
 status_cell s about status status_column.State = Number status.state
@@ -96,14 +105,20 @@ status_cell s about status status_column.Downtimes = Numbers (downtime_ids_of s 
 
 -- ---- counters
 
--- of the services of a host, of the services of the hosts that a group lists, or of the services that a group lists
+-- of the services of a host, of the services of the hosts that a group lists, or of the services
+-- that a group lists
 abbrev pub services_cell : State → Scope → ServiceCounter → Value
 services_cell s scope service_counter.NumServices = count (services_counted s scope counted.All)
-services_cell s scope service_counter.NumServicesOk = count (services_counted s scope (counted.In (pos 0)))
-services_cell s scope service_counter.NumServicesWarn = count (services_counted s scope (counted.In (pos 1)))
-services_cell s scope service_counter.NumServicesCrit = count (services_counted s scope (counted.In (pos 2)))
-services_cell s scope service_counter.NumServicesUnknown = count (services_counted s scope (counted.In (pos 3)))
-services_cell s scope service_counter.NumServicesPending = count (services_counted s scope counted.Pending)
+services_cell s scope service_counter.NumServicesOk =
+    count (services_counted s scope (counted.In (pos 0)))
+services_cell s scope service_counter.NumServicesWarn =
+    count (services_counted s scope (counted.In (pos 1)))
+services_cell s scope service_counter.NumServicesCrit =
+    count (services_counted s scope (counted.In (pos 2)))
+services_cell s scope service_counter.NumServicesUnknown =
+    count (services_counted s scope (counted.In (pos 3)))
+services_cell s scope service_counter.NumServicesPending =
+    count (services_counted s scope counted.Pending)
 services_cell s scope service_counter.WorstServiceState = count (worst_service s scope)
 
 -- of the hosts that a group lists
@@ -121,11 +136,13 @@ abbrev pub host_cell : State → HostId → Host → Status → HostColumn → V
 host_cell s id host status host_column.Name = Words host.host_name
 host_cell s id host status host_column.Alias = Words host.alias
 host_cell s id host status host_column.Address = Words host.address
-host_cell s id host status (host_column.Object column) = object_cell s.base (object.Host id) host.fields column
+host_cell s id host status (host_column.Object column) =
+    object_cell s.base (object.Host id) host.fields column
 host_cell s id host status host_column.Parents = Texts (host_names_of s.base host.parents)
 host_cell s id host status host_column.Childs = Texts (child_names_of s.base id)
 host_cell s id host status host_column.Services = Texts (descriptions_of s.base id)
-host_cell s id host status (host_column.Status column) = status_cell s (object.Host id) status column
+host_cell s id host status (host_column.Status column) =
+    status_cell s (object.Host id) status column
 host_cell s id host status (host_column.Counter column) = services_cell s (scope.Host id) column
 
 abbrev pub host_at : State → HostId → Option Host → Option Status → HostColumn → Value
@@ -133,24 +150,30 @@ host_at s id (Some host) (Some status) column = host_cell s id host status colum
 host_at s id (Some host) None column = empty_value (host_kind column)
 host_at s id None status column = empty_value (host_kind column)
 
--- the value of a column of a host; the empty value where the base has no such host, or the column is of something else
+-- the value of a column of a host; the empty value where the base has no such host, or the column
+-- is of something else
 abbrev pub of_host : State → HostId → OwnColumn → Value
-of_host s id (own.Host column) = host_at s id (slice_get s.base.hosts id.0) (slice_get s.host_status id.0) column
+of_host s id (own.Host column) =
+    host_at s id (slice_get s.base.hosts id.0) (slice_get s.host_status id.0) column
 of_host s id column = empty_value (own_kind column)
 
 -- ---- services
 
 abbrev pub service_cell : State → ServiceId → Service → Status → ServiceColumn → Value
 service_cell s id service status service_column.Description = Words service.service_description
-service_cell s id service status (service_column.Object column) = object_cell s.base (object.Service id) service.fields column
-service_cell s id service status (service_column.Status column) = status_cell s (object.Service id) status column
+service_cell s id service status (service_column.Object column) =
+    object_cell s.base (object.Service id) service.fields column
+service_cell s id service status (service_column.Status column) =
+    status_cell s (object.Service id) status column
 
 abbrev pub service_at : State → ServiceId → Option Service → Option Status → ServiceColumn → Value
 service_at s id (Some service) (Some status) column = service_cell s id service status column
 service_at s id (Some service) None column = empty_value (service_kind column)
 service_at s id None status column = empty_value (service_kind column)
 
--- the value of a column of a service; the empty value where the base has no such service, or the column is of something else
+-- the value of a column of a service; the empty value where the base has no such service, or the
+-- column is of something else
 abbrev pub of_service : State → ServiceId → OwnColumn → Value
-of_service s id (own.Service column) = service_at s id (slice_get s.base.services id.0) (slice_get s.service_status id.0) column
+of_service s id (own.Service column) =
+    service_at s id (slice_get s.base.services id.0) (slice_get s.service_status id.0) column
 of_service s id column = empty_value (own_kind column)

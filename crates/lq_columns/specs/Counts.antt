@@ -20,23 +20,30 @@ use Rattle.lq_columns.specs.declared.counted.Counted.TheVariants as counted
 
 -- the hosts that a group lists
 abbrev pub group_members : Base → HostGroupId → List HostId
-group_members base group = option_map_or (λ group. group.members) (slice_get base.host_groups group.0) []
+group_members base group =
+    option_map_or (λ group. group.members) (slice_get base.host_groups group.0) []
 
 -- the services that a group lists
 abbrev pub service_members : Base → ServiceGroupId → List ServiceId
-service_members base group = option_map_or (λ group. group.members) (slice_get base.service_groups group.0) []
+service_members base group =
+    option_map_or (λ group. group.members) (slice_get base.service_groups group.0) []
 
 -- the service at a place is one of a host
 abbrev pub is_service_of : Base → HostId → ℕ → Bool
-is_service_of base id place = option_map_or (λ service. service.host.0 == id.0) (slice_get base.services place) false
+is_service_of base id place =
+    option_map_or (λ service. service.host.0 == id.0) (slice_get base.services place) false
 
 -- the service at a place is one of a host that a group lists
 abbrev pub is_group_service : Base → HostGroupId → ℕ → Bool
-is_group_service base group place = option_map_or (λ service. has_host (group_members base group) service.host) (slice_get base.services place) false
+is_group_service base group place =
+    option_map_or (λ service. has_host (group_members base group) service.host)
+    (slice_get base.services place) false
 
 -- a group lists the service at a place
 abbrev pub group_lists : Base → ServiceGroupId → ℕ → Bool
-group_lists base group place = option_map_or (λ group. list_any (λ member. member.0 == place) group.members) (slice_get base.service_groups group.0) false
+group_lists base group place =
+    option_map_or (λ group. list_any (λ member. member.0 == place) group.members)
+    (slice_get base.service_groups group.0) false
 
 abbrev pub is_in_scope : Base → Scope → ℕ → Bool
 is_in_scope base (scope.Host id) place = is_service_of base id place
@@ -66,35 +73,47 @@ abbrev pub counts_at : List Status → Counted → ℕ → Bool
 counts_at statuses which place = option_map_or (counts which) (slice_get statuses place) false
 
 abbrev pub services_counted : State → Scope → Counted → ℕ
-services_counted s scope which = length (filter (counts_at s.service_status which) (places_in s.base scope))
+services_counted s scope which =
+    length (filter (counts_at s.service_status which) (places_in s.base scope))
 
 abbrev pub hosts_counted : State → HostGroupId → Counted → ℕ
-hosts_counted s group which = length (filter (λ id. counts_at s.host_status which id.0) (group_members s.base group))
+hosts_counted s group which =
+    length (filter (λ id. counts_at s.host_status which id.0) (group_members s.base group))
 
 -- ---- the worst state
 
--- how bad a service's state is: ok, warning, unknown, critical
-abbrev pub service_badness : ℤ → ℕ
-service_badness state =
-    if int_eq state (pos 1) then 1 else if int_eq state (pos 3) then 2 else if int_eq state (pos 2) then 3 else 0
+-- how severe a service's state is: ok, warning, unknown, critical
+abbrev pub service_severity : ℤ → ℕ
+service_severity state =
+    if int_eq state (pos 1) then 1
+    else if int_eq state (pos 3) then 2
+    else if int_eq state (pos 2) then 3
+    else 0
 
 abbrev pub service_state : ℕ → ℕ
-service_state badness = if badness == 1 then 1 else if badness == 2 then 3 else if badness == 3 then 2 else 0
+service_state severity =
+    if severity == 1 then 1 else if severity == 2 then 3 else if severity == 3 then 2 else 0
 
--- how bad a host's state is: up, unreachable, down
-abbrev pub host_badness : ℤ → ℕ
-host_badness state = if int_eq state (pos 2) then 1 else if int_eq state (pos 1) then 2 else 0
+-- how severe a host's state is: up, unreachable, down
+abbrev pub host_severity : ℤ → ℕ
+host_severity state = if int_eq state (pos 2) then 1 else if int_eq state (pos 1) then 2 else 0
 
 abbrev pub host_state : ℕ → ℕ
-host_state badness = if badness == 1 then 2 else if badness == 2 then 1 else 0
+host_state severity = if severity == 1 then 2 else if severity == 2 then 1 else 0
 
 -- a pending object is as good as one in state 0
-abbrev pub badness_at : (ℤ → ℕ) → List Status → ℕ → ℕ
-badness_at badness statuses place =
-    option_map_or (λ status. if is_pending status then 0 else badness status.state) (slice_get statuses place) 0
+abbrev pub severity_at : (ℤ → ℕ) → List Status → ℕ → ℕ
+severity_at severity statuses place =
+    option_map_or (λ status. if is_pending status then 0 else severity status.state)
+    (slice_get statuses place) 0
 
 abbrev pub worst_service : State → Scope → ℕ
-worst_service s scope = service_state (fold max 0 (map (badness_at service_badness s.service_status) (places_in s.base scope)))
+worst_service s scope =
+    service_state
+    (fold max 0 (map (severity_at service_severity s.service_status) (places_in s.base scope)))
 
 abbrev pub worst_host : State → HostGroupId → ℕ
-worst_host s group = host_state (fold max 0 (map (λ id. badness_at host_badness s.host_status id.0) (group_members s.base group)))
+worst_host s group =
+    host_state
+    (fold max 0
+    (map (λ id. severity_at host_severity s.host_status id.0) (group_members s.base group)))

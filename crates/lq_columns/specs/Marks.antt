@@ -12,10 +12,13 @@ has_place place_of members place = list_any (λ member. place_of member == place
 
 -- marks that say of each place, as far as they go, whether it passes a test
 abbrev pub AreMarks : (ℕ → Bool) → List Bool → Type 0
-AreMarks test marks = (place : ℕ) → place < length marks → slice_index_or marks place false ≡ test place
+AreMarks test marks =
+    (place : ℕ) → place < length marks → slice_index_or marks place false ≡ test place
 
 -- the marks by which the services of a group are found
 abbrev pub AreMarksOf : Base → Scope → List Bool → Type 0
 AreMarksOf base (scope.Host id) marks = Unit {0}
-AreMarksOf base (scope.HostGroup group) marks = AreMarks (has_place (λ id. id.0) (group_members base group)) marks
-AreMarksOf base (scope.ServiceGroup group) marks = AreMarks (has_place (λ id. id.0) (service_members base group)) marks
+AreMarksOf base (scope.HostGroup group) marks =
+    AreMarks (has_place (λ id. id.0) (group_members base group)) marks
+AreMarksOf base (scope.ServiceGroup group) marks =
+    AreMarks (has_place (λ id. id.0) (service_members base group)) marks

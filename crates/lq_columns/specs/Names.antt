@@ -25,13 +25,15 @@ abbrev pub host_names_of : Base → List HostId → List (List ℕ)
 host_names_of base ids = filter_map (name_of_host base) ids
 
 abbrev pub name_of_contact : Base → ContactId → Option (List ℕ)
-name_of_contact base id = option_map (λ contact. contact.contact_name) (slice_get base.contacts id.0)
+name_of_contact base id =
+    option_map (λ contact. contact.contact_name) (slice_get base.contacts id.0)
 
 abbrev pub contact_names_of : Base → List ContactId → List (List ℕ)
 contact_names_of base ids = filter_map (name_of_contact base) ids
 
 abbrev pub name_of_contact_group : Base → ContactGroupId → Option (List ℕ)
-name_of_contact_group base id = option_map (λ group. group.contactgroup_name) (slice_get base.contact_groups id.0)
+name_of_contact_group base id =
+    option_map (λ group. group.contactgroup_name) (slice_get base.contact_groups id.0)
 
 abbrev pub contact_group_names_of : Base → List ContactGroupId → List (List ℕ)
 contact_group_names_of base ids = filter_map (name_of_contact_group base) ids
@@ -43,7 +45,8 @@ members_of base id = option_map_or (λ group. group.members) (slice_get base.con
 
 -- the contacts at the object itself, then those of its contact groups, repeats dropped
 abbrev pub contacts_of : Base → ObjectFields → List ContactId
-contacts_of base fields = first_of_each (fields.contacts ++ flat_map (members_of base) fields.contact_groups)
+contacts_of base fields =
+    first_of_each (fields.contacts ++ flat_map (members_of base) fields.contact_groups)
 
 -- ---- groups that list an object
 
@@ -57,7 +60,8 @@ abbrev pub name_with_host : HostId → HostGroup → Option (List ℕ)
 name_with_host id group = if has_host group.members id then Some group.hostgroup_name else None
 
 abbrev pub name_with_service : ServiceId → ServiceGroup → Option (List ℕ)
-name_with_service id group = if has_service group.members id then Some group.servicegroup_name else None
+name_with_service id group =
+    if has_service group.members id then Some group.servicegroup_name else None
 
 -- the groups of hosts that list a host, the groups of services that list a service
 abbrev pub group_names_of : Base → Object → List (List ℕ)
@@ -74,7 +78,8 @@ abbrev pub child_names_of : Base → HostId → List (List ℕ)
 child_names_of base id = filter_map (name_below id) base.hosts
 
 abbrev pub description_on : HostId → Service → Option (List ℕ)
-description_on id service = if service.host.0 == id.0 then Some service.service_description else None
+description_on id service =
+    if service.host.0 == id.0 then Some service.service_description else None
 
 -- the descriptions of the services of a host
 abbrev pub descriptions_of : Base → HostId → List (List ℕ)

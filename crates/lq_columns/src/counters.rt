@@ -1,12 +1,12 @@
 ghost use Rattle.std.specs.Prelude.{◌≡◌, length, filter, map, max, fold};
 ghost use Rattle.lq_schema.specs.Value.{shown};
 ghost use Rattle.lq_columns.specs.Cells.{count, hosts_cell, services_cell};
-ghost use Rattle.lq_columns.specs.Counts.{badness_at, counts_at, host_badness, hosts_counted, services_counted, worst_host, worst_service};
+ghost use Rattle.lq_columns.specs.Counts.{severity_at, counts_at, host_severity, hosts_counted, services_counted, worst_host, worst_service};
 
-use crate::badness::{host_badness_at, host_state, service_state};
 use crate::counted::{Counted, counts_at};
 use crate::scope::Scope;
 use crate::selection::{Selection, members_of_hosts};
+use crate::severity::{host_severity_at, host_state, service_state};
 use lq_events::Status;
 use lq_live::Live;
 use lq_records::{HostGroupId, HostId};
@@ -49,8 +49,8 @@ fn worst_service(alloc: Global, live: &Live, scope: Scope) -> Val<'static>
     ensures { shown result ≡ count (worst_service live.now.state scope) }
 {
     let selection = Selection::new(alloc, live.base(), scope);
-    let badness = selection.worst(live.service_statuses());
-    Val::Int(i128::from(service_state(badness)))
+    let severity = selection.worst(live.service_statuses());
+    Val::Int(i128::from(service_state(severity)))
 }
 
 // ---- hosts
@@ -91,16 +91,16 @@ fn worst_host(live: &Live, group: HostGroupId) -> Val<'static>
     ensures { shown result ≡ count (worst_host live.now.state group) }
 {
     let members = members_of_hosts(live.base(), group);
-    let badness = worst_among(live.host_statuses(), members);
-    Val::Int(i128::from(host_state(badness)))
+    let severity = worst_among(live.host_statuses(), members);
+    Val::Int(i128::from(host_state(severity)))
 }
 
 fn worst_among(statuses: &[Status], members: &[HostId]) -> u8
     ensures { result
-        ≡ fold max 0 (map (λ id. badness_at host_badness statuses.now id.0) members.now) }
+        ≡ fold max 0 (map (λ id. severity_at host_severity statuses.now id.0) members.now) }
 {
     members
         .iter()
-        .map(|id| host_badness_at(statuses, id.0 as usize))
-        .fold(0, |worst, badness| worst.max(badness))
+        .map(|id| host_severity_at(statuses, id.0 as usize))
+        .fold(0, |worst, severity| worst.max(severity))
 }

@@ -2,7 +2,6 @@
 //! and services.
 #![tactic(auto)]
 
-mod badness;
 mod contacts;
 mod counted;
 mod counters;
@@ -16,6 +15,7 @@ mod object;
 mod scope;
 mod selection;
 mod service;
+mod severity;
 mod status;
 
 pub use counters::{hosts_value, services_value};

@@ -1,11 +1,11 @@
 ghost use Rattle.std.specs.Prelude.{◌≡◌, length, filter, map, max, fold};
-ghost use Rattle.lq_columns.specs.Counts.{badness_at, group_lists, group_members, is_group_service, is_in_scope, is_service_of, places_in, counts_at, service_badness, service_members};
+ghost use Rattle.lq_columns.specs.Counts.{severity_at, group_lists, group_members, is_group_service, is_in_scope, is_service_of, places_in, counts_at, service_severity, service_members};
 ghost use Rattle.lq_columns.specs.Marks.{AreMarks, AreMarksOf, has_place};
 
-use crate::badness::service_badness_at;
 use crate::counted::{Counted, counts_at};
 use crate::marks::{has_marked, marks_of};
 use crate::scope::Scope;
+use crate::severity::service_severity_at;
 use lq_events::Status;
 use lq_records::{Base, HostGroupId, HostId, ServiceGroupId, ServiceId};
 use std::alloc::Global;
@@ -59,13 +59,13 @@ impl<'a> Selection<'a> {
     pub(crate) fn worst(&self, statuses: &[Status]) -> u8
         requires { AreMarksOf self.now.base.now self.now.scope self.now.marks.items }
         ensures { result
-            ≡ fold max 0 (map (badness_at service_badness statuses.now)
+            ≡ fold max 0 (map (severity_at service_severity statuses.now)
             (places_in self.now.base.now self.now.scope)) }
     {
         (0..self.base.services.len())
             .filter(|place| self.has(*place))
-            .map(|place| service_badness_at(statuses, place))
-            .fold(0, |worst, badness| worst.max(badness))
+            .map(|place| service_severity_at(statuses, place))
+            .fold(0, |worst, severity| worst.max(severity))
     }
 }
 

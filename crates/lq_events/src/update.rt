@@ -1,7 +1,7 @@
 use lq_records::{HostId, ServiceId, Text};
 
-/// What an external command does. Each variant is named by the command's words and has its fields in
-/// order. Seconds are counted from the beginning of 1970.
+/// What an external command does. Each variant is named by the command's words and has its fields
+/// in order. Seconds are counted from the beginning of 1970.
 #[derive(Drop)]
 pub enum Act {
     ProcessHostCheckResult {

@@ -37,7 +37,8 @@ holds base (object.Service id) = nat_lt id.0 (length base.services)
 unfoldable pub alert_line : ℕ → LineNames → CheckAttempt → ℤ → List ℕ → LogEntry
 alert_line now names attempt new output =
     written now
-    (form.Alert names.host names.service new attempt.hard attempt.number (before_first is_bar output))
+    (form.Alert names.host names.service new attempt.hard attempt.number
+        (before_first is_bar output))
 
 abbrev pub result_edits : ℕ → Object → LineNames → CheckAttempt → ℤ → List ℕ → Status → List Edit
 result_edits now object names attempt new output old =
@@ -54,7 +55,8 @@ result_of now base object new output (Some names) (Some old) =
 abbrev pub check_result : Object → ℕ → List ℕ → State → List Edit
 check_result object code output s =
     if nat_le code (most_code object)
-    then result_of s.now s.base object (pos code) output (names_of s.base object) (status_of s object)
+    then result_of s.now s.base object (pos code) output (names_of s.base object)
+        (status_of s object)
     else []
 
 -- ---- comments and acknowledgements
@@ -211,7 +213,8 @@ is_of_host_downtimes (act.DelHostDowntime id) = true
 is_of_host_downtimes _ = false
 
 abbrev pub is_of_service_downtimes : Act → Bool
-is_of_service_downtimes (act.ScheduleSvcDowntime service start end fixed trigger duration _ _) = true
+is_of_service_downtimes (act.ScheduleSvcDowntime service start end fixed trigger duration _ _) =
+    true
 is_of_service_downtimes (act.DelSvcDowntime id) = true
 is_of_service_downtimes _ = false
 

@@ -11,8 +11,8 @@ use Rattle.lq_records.specs.declared.object.Object.{Object}
 use Rattle.lq_records.specs.declared.object.Object.TheVariants as object
 
 -- What is known at one moment: the objects, the status of each host and of each service by its
--- place, the downtimes, comments and log entries, the present second, the ids that the next downtime
--- and the next comment get, and whether people are notified at all.
+-- place, the downtimes, comments and log entries, the present second, the ids that the next
+-- downtime and the next comment get, and whether people are notified at all.
 pub record State : Type 0 where
   pub base : Base
   pub host_status : List Status

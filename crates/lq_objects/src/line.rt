@@ -1,4 +1,4 @@
-ghost use Rattle.std.specs.Prelude.{◌≡◌, ℕ, IsTrue, ◌<◌, ◌≤◌, ◌^◌, ◌&&◌, IfOk, length};
+ghost use Rattle.std.specs.Prelude.{◌≡◌, ℕ, IsTrue, ◌<◌, ◌≤◌, ◌&&◌, IfOk, length};
 ghost use Rattle.std.specs.List.{list_any};
 ghost use Rattle.std.specs.Option.{option_copied};
 ghost use Rattle.lq_text.specs.Blanks.{is_blank};
@@ -12,10 +12,6 @@ use lq_text::{is_blank, next_line, trim};
 use std::alloc::{AllocError, Global};
 use std::marker::Model;
 
-/// The most bytes that a file may have, so that a `u32` holds each line's number and each word's
-/// length. A larger one is answered as memory that ran out.
-const MOST_BYTES: usize = 0xFFFF_FFFF;
-
 /// How many bytes a line has, about.
 const BYTES_A_LINE: usize = 24;
 
@@ -23,9 +19,9 @@ const BYTES_A_LINE: usize = 24;
 /// both ends.
 #[derive(Drop)]
 pub(crate) struct Line<'a> {
-    number: u32,
+    number: u64,
     /// How many bytes the word at the front has: the name of the directive that the line is.
-    word: u32,
+    word: usize,
     text: &'a [u8],
 }
 
@@ -41,19 +37,20 @@ impl<'a> Model for Line<'a> {
 }
 
 impl<'a> Line<'a> {
-    /// A line, whose text is shorter than 2 ^ 32 bytes.
-    pub(crate) fn new(number: u32, text: &'a [u8]) -> Self
-        requires { length text.now < 2 ^ 32 }
+    pub(crate) fn new(number: u64, text: &'a [u8]) -> Self
         ensures { result ≡ record { number = number; text = text.now } }
     {
-        let word = word_length(text) as u32;
-        Line { number, word, text }
+        Line {
+            number,
+            word: word_length(text),
+            text,
+        }
     }
 
     pub(crate) fn number(&self) -> u64
         ensures { result ≡ self.now.number }
     {
-        u64::from(self.number)
+        self.number
     }
 
     pub(crate) fn text(&self) -> &'a [u8]
@@ -67,7 +64,7 @@ impl<'a> Line<'a> {
         ensures { result ≡ At self.now.number what }
     {
         ObjectsErr::At {
-            line: self.number(),
+            line: self.number,
             what,
         }
     }
@@ -77,14 +74,14 @@ impl<'a> Line<'a> {
         requires { IsTrue (is_word name.now) }
         ensures { result ≡ is_named name.now self.now.text }
     {
-        self.word as usize == name.len() && self.text.starts_with(name)
+        self.word == name.len() && self.text.starts_with(name)
     }
 
     /// The word at the front.
     pub(crate) fn word(&self) -> &'a [u8]
         ensures { result.now ≡ variable_name self.now.text }
     {
-        &self.text[..self.word as usize]
+        &self.text[..self.word]
     }
 
     /// Whether the line closes a block.
@@ -106,9 +103,6 @@ impl<'a> Line<'a> {
 pub(crate) fn telling_lines(alloc: Global, b: &[u8]) -> Result<Vec<Line<'_>>, AllocError>
     ensures { IfOk result (λ lines. lines.items ≡ telling_lines b.now) }
 {
-    if b.len() > MOST_BYTES {
-        return Err(AllocError);
-    }
     let mut lines = Vec::with_capacity(alloc, b.len() / BYTES_A_LINE)?;
     let mut at = 0;
     let mut number = 0;

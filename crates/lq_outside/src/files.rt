@@ -44,8 +44,8 @@ pub trait Files {
     // How many loads were faults.
     ghost faults: { Self → ℕ };
 
-    /// Returns all bytes of the file at `path`, which may be at most `most`. No load changes a file.
-    /// A read that a signal interrupts is taken again.
+    /// Returns all bytes of the file at `path`, which may be at most `most`. No load changes a
+    /// file. A read that a signal interrupts is taken again.
     fn load(&mut self, alloc: Global, path: &str, most: u64) -> Result<Vec<u8>, LoadErr>
         ensures loads { Loads (held_at self.old path.now) most result }
         ensures cause { HasLoadCause (faults self.old) (faults self.new) result }

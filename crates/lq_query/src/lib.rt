@@ -2,6 +2,7 @@
 //! asks for.
 #![tactic(auto)]
 
+mod column;
 mod csv;
 mod page;
 mod reply;

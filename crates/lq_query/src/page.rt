@@ -1,18 +1,19 @@
 ghost use Rattle.std.specs.Prelude.{◌≡◌, ◌++◌, ◌≤◌, length, map, IfOk, OnOk};
 ghost use Rattle.lq_schema.specs.Names.{full_name};
 ghost use Rattle.lq_tables.specs.Cells.{cell_of};
-ghost use Rattle.lq_query.specs.Answer.{line_of};
-ghost use Rattle.lq_query.specs.Body.{AddsText, text_of, texts_of};
+ghost use Rattle.lq_tables.specs.Rows.{rows_of};
+ghost use Rattle.lq_query.specs.Answer.{line_of, with_names};
+ghost use Rattle.lq_query.specs.Body.{AddsText, IsBody, text_of, texts_of};
 ghost use Rattle.lq_query.specs.Csv.{cell_text, csv, csv_line};
 ghost use Rattle.lq_query.specs.declared.reply.TheConstants.{REPLY_LIMIT};
 
+use crate::column::ShownColumn;
 use crate::csv::{push_number, push_value};
 use crate::reply::REPLY_LIMIT;
 use lq_live::Live;
 use lq_records::Memory;
-use lq_request::Request;
-use lq_schema::{Col, ColKind, column_name, kind};
-use lq_tables::{Row, cell, number_cell, text_cell};
+use lq_schema::{Col, ColKind, Table, column_name};
+use lq_tables::{Row, cell, number_cell, rows, text_cell};
 use std::alloc::Global;
 
 /// What the body of a reply is written from.
@@ -22,8 +23,10 @@ pub struct Page<'a> {
     pub alloc: Global,
     /// The state that is shown.
     pub live: &'a Live,
-    /// The table and the columns that are shown.
-    pub request: &'a Request,
+    /// The table whose rows are shown.
+    pub table: Table,
+    /// The columns that are shown, in order.
+    pub columns: &'a [ShownColumn],
 }
 
 /// What a line of a body shows.
@@ -36,11 +39,30 @@ pub enum Line {
 }
 
 impl Page<'_> {
+    /// The line of the names, where it is asked for, and the lines of all rows. None where they have
+    /// too many bytes.
+    pub fn body(self, head: bool) -> Result<Option<Vec<u8>>, Memory>
+        ensures { IfOk result (λ body. IsBody body
+            (csv (with_names head self.entry.columns.now
+            (map (line_of self.entry.live.now.state self.entry.columns.now)
+            (rows_of self.entry.live.now.state self.entry.table))))) }
+    {
+        let mut body = Vec::new(self.alloc);
+        if head && !self.push_line(&mut body, Line::Names)? {
+            return Ok(None);
+        }
+        let rows = rows(self.alloc, self.live, self.table)?;
+        if !self.push_rows(&mut body, rows.as_slice())? {
+            return Ok(None);
+        }
+        Ok(Some(body))
+    }
+
     /// Adds the lines of rows. False where the body is too large with them.
     pub fn push_rows(self, body: &mut Vec<u8>, rows: &[Row]) -> Result<bool, Memory>
         requires { length body.old.items ≤ REPLY_LIMIT }
         ensures { IfOk result (λ fits. AddsText fits body.old.items body.new.items
-            (csv (map (line_of self.entry.live.now.state self.entry.request.now.columns) rows.now))) }
+            (csv (map (line_of self.entry.live.now.state self.entry.columns.now) rows.now))) }
     {
         for row in rows {
             if !self.push_line(body, Line::Row(*row))? {
@@ -53,42 +75,43 @@ impl Page<'_> {
     /// Adds a line. False where the body is too large with it.
     pub fn push_line(self, body: &mut Vec<u8>, line: Line) -> Result<bool, Memory>
         ensures { IfOk result (λ fits. AddsText fits body.old.items body.new.items
-            (csv_line (texts_of self.entry.live.now.state line self.entry.request.now.columns))) }
+            (csv_line (texts_of self.entry.live.now.state line self.entry.columns.now))) }
     {
-        let Some((first, later)) = self.request.columns.as_slice().split_first() else {
+        let Some((first, later)) = self.columns.split_first() else {
             body.push(b'\n')?;
             return Ok(body.len() <= REPLY_LIMIT);
         };
-        self.push_text(body, line, *first)?;
+        self.push_text(body, line, first)?;
         for column in later {
             if body.len() > REPLY_LIMIT {
                 return Ok(false);
             }
             body.push(b';')?;
-            self.push_text(body, line, *column)?;
+            self.push_text(body, line, column)?;
         }
         body.push(b'\n')?;
         Ok(body.len() <= REPLY_LIMIT)
     }
 
     /// Adds what a line shows in a column.
-    fn push_text(self, body: &mut Vec<u8>, line: Line, column: Col) -> Result<(), Memory>
+    fn push_text(self, body: &mut Vec<u8>, line: Line, column: &ShownColumn) -> Result<(), Memory>
         ensures { OnOk result
-            (body.new.items ≡ body.old.items ++ text_of self.entry.live.now.state line column) }
+            (body.new.items ≡ body.old.items ++ text_of self.entry.live.now.state line column.now) }
     {
         match line {
-            Line::Names => push_name(body, column),
+            Line::Names => push_name(body, column.column()),
             Line::Row(row) => self.push_cell(body, row, column),
         }
     }
 
     /// Adds the text of a cell. A number and a text of the data take no memory of their own.
-    fn push_cell(self, body: &mut Vec<u8>, row: Row, column: Col) -> Result<(), Memory>
+    fn push_cell(self, body: &mut Vec<u8>, row: Row, shown: &ShownColumn) -> Result<(), Memory>
         ensures { OnOk result
             (body.new.items
-            ≡ body.old.items ++ cell_text (cell_of self.entry.live.now.state row column)) }
+            ≡ body.old.items ++ cell_text (cell_of self.entry.live.now.state row shown.now)) }
     {
-        match kind(column) {
+        let column = shown.column();
+        match shown.kind() {
             ColKind::Int => match number_cell(self.live, column, &row) {
                 Some(number) => push_number(body, number),
                 None => self.push_any(body, row, column),
@@ -109,7 +132,7 @@ impl Page<'_> {
             (body.new.items
             ≡ body.old.items ++ cell_text (cell_of self.entry.live.now.state row column)) }
     {
-        let value = cell(self.alloc, self.live, self.request.table, column, &row)?;
+        let value = cell(self.alloc, self.live, self.table, column, &row)?;
         push_value(body, &value)
     }
 }

@@ -3,11 +3,11 @@ ghost use Rattle.lq_query.specs.Answer.{answer_of, lines_of};
 ghost use Rattle.lq_query.specs.Body.{IsBody};
 ghost use Rattle.lq_query.specs.Csv.{csv};
 
-use crate::page::{Line, Page};
+use crate::column::shown_columns;
+use crate::page::Page;
 use lq_live::Live;
 use lq_records::{Items, Memory};
 use lq_request::Request;
-use lq_tables::rows;
 use std::alloc::Global;
 
 /// The most bytes that the body of a reply may have. A body of one byte more is replaced by the
@@ -30,8 +30,8 @@ pub struct Reply {
 }
 
 /// Answers a query: 200, the names of the columns where the query asks for them and a line for each
-/// row of the table, or 413 and no byte where the lines have more than `REPLY_LIMIT` bytes. The only
-/// error is out of memory.
+/// row of the table, or 413 and no byte where the lines have more than `REPLY_LIMIT` bytes. The
+/// only error is out of memory.
 pub fn answer(alloc: Global, live: &Live, request: &Request) -> Result<Reply, Memory>
     ensures { IfOk result (λ reply. reply ≡ answer_of request.now live.now.state) }
 {
@@ -51,18 +51,12 @@ pub fn answer(alloc: Global, live: &Live, request: &Request) -> Result<Reply, Me
 fn body(alloc: Global, live: &Live, request: &Request) -> Result<Option<Vec<u8>>, Memory>
     ensures { IfOk result (λ body. IsBody body (csv (lines_of request.now live.now.state))) }
 {
+    let columns = shown_columns(alloc, request.columns.as_slice())?;
     let page = Page {
         alloc,
         live,
-        request,
+        table: request.table,
+        columns: &columns,
     };
-    let mut body = Vec::new(alloc);
-    if request.head && !page.push_line(&mut body, Line::Names)? {
-        return Ok(None);
-    }
-    let rows = rows(alloc, live, request.table)?;
-    if !page.push_rows(&mut body, rows.as_slice())? {
-        return Ok(None);
-    }
-    Ok(Some(body))
+    page.body(request.head)
 }

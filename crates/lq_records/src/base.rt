@@ -15,7 +15,8 @@ pub struct ObjectFields {
     pub check_period: Text,
     /// The name of the time period in which people are notified. It need not be in the base.
     pub notification_period: Text,
-    /// How often a check has to find the object in trouble before its state is hard, 1 to 1,000,000.
+    /// How often a check has to find the object in trouble before its state is hard, 1 to
+    /// 1,000,000.
     pub max_check_attempts: u32,
     /// 1 where people are notified about the object, else 0.
     pub notifications_enabled: u8,

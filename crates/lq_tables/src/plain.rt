@@ -25,9 +25,9 @@ use lq_schema::{Col, HostColumn, OwnColumn, ServiceColumn};
 
 // ---- numbers
 
-/// The number of a cell that is found without a look at other objects, None for any other cell: a text
-/// or a list, a counter, how many downtimes hold. 0 where the row is about nothing of the column's
-/// kind. It is what `cell` gives, and takes no memory.
+/// The number of a cell that is found without a look at other objects, None for any other cell: a
+/// text or a list, a counter, how many downtimes hold. 0 where the row is about nothing of the
+/// column's kind. It is what `cell` gives, and takes no memory.
 pub fn number_cell(live: &Live, c: Col, r: &Row) -> Option<i128>
     ensures value { IfSome result (λ number. cell_of live.now.state r.now c ≡ Number number) }
     ensures given { IsNumber (own_kind c.own) → IsHeld c.own → IsSome result }
@@ -69,9 +69,9 @@ fn number_of_service(live: &Live, column: ServiceColumn, id: Option<ServiceId>) 
 
 // ---- texts
 
-/// The text of a cell that the state holds as it is, None for any other cell: a number or a list, and
-/// the whole name of a column, which is put together. Empty where the row is about nothing of the
-/// column's kind. It is what `cell` gives, and takes no memory.
+/// The text of a cell that the state holds as it is, None for any other cell: a number or a list,
+/// and the whole name of a column, which is put together. Empty where the row is about nothing of
+/// the column's kind. It is what `cell` gives, and takes no memory.
 pub fn text_cell<'a>(live: &'a Live, c: Col, r: &Row) -> Option<&'a str>
     ensures value { IfSome result (λ text. cell_of live.now.state r.now c ≡ Words text.now) }
     ensures given { IsText (own_kind c.own) → IsLight c.own → IsSome result }

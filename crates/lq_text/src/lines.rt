@@ -5,9 +5,9 @@ ghost use Rattle.lq_text.specs.Lines.{IsFirstLine, IsLineAt};
 use memchr::memchr;
 
 /// The line that begins at the place `at`: the place where its text ends, and the place where the
-/// next line begins. Places count bytes from the front of `b`. The text is without the line feed and
-/// one carriage return before that. A last line may lack its line feed, and then keeps a carriage
-/// return at its end. None exactly where `at` is the end of the bytes.
+/// next line begins. Places count bytes from the front of `b`. The text is without the line feed
+/// and one carriage return before that. A last line may lack its line feed, and then keeps a
+/// carriage return at its end. None exactly where `at` is the end of the bytes.
 pub fn next_line(b: &[u8], at: usize) -> Option<(usize, usize)>
     requires { at ≤ length b.now }
     ensures none { IsNone result ↔ (at ≡ length b.now) }

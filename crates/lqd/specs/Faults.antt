@@ -20,7 +20,9 @@ fault_of_base (Err fault) = Some (At fault.line fault.what)
 
 -- the fault of an object file, where it has one
 unfoldable pub objects_fault : List ℕ → Rules → Option ObjectsFault
-objects_fault bytes rules = if nat_lt OBJECTS_LIMIT (length bytes) then Some TooLarge else fault_of_base (base_of bytes rules)
+objects_fault bytes rules =
+    if nat_lt OBJECTS_LIMIT (length bytes) then Some TooLarge
+    else fault_of_base (base_of bytes rules)
 
 -- ---- statuses
 
@@ -47,7 +49,8 @@ usage_text = line (codes "usage: lqd ask|replay|serve|load")
 
 abbrev pub objects_text : ObjectsFault → List ℕ
 objects_text TooLarge = line (codes "objects: too large")
-objects_text (At number what) = line (codes "objects: line " ++ (decimal number ++ (codes ": " ++ what_text what)))
+objects_text (At number what) =
+    line (codes "objects: line " ++ (decimal number ++ (codes ": " ++ what_text what)))
 
 abbrev pub missing_text : List ℕ → List ℕ
 missing_text path = line (codes "file: " ++ (path ++ codes ": missing"))

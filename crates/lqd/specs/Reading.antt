@@ -11,8 +11,8 @@ pub record ReadsSome (old left : Option (List ℕ)) : Type 0 where
   pub taken : List ℕ
   pub consumed : Consumes old left taken
 
--- The input was read to its end, or at least to the end of the message that ended the connection, or past the
--- first 65,536 bytes of one that is too long.
+-- The input was read to its end, or at least to the end of the message that ended the connection,
+-- or past the first 65,536 bytes of one that is too long.
 pub record ReadsAll (old left : Option (List ℕ)) : Type 0 where
   pub taken : List ℕ
   pub consumed : Consumes old left taken
@@ -31,13 +31,15 @@ pub record RepliesToPart (s : State) (old left held_old held : Option (List ℕ)
   pub written : Appends held_old held (replies_to s (whole_messages taken))
 
 -- the replies to the first messages of the input were written
-pub record RepliesToFirst (s : State) (input : List ℕ) (held_old held : Option (List ℕ)) : Type 0 where
+pub record RepliesToFirst (s : State) (input : List ℕ)
+    (held_old held : Option (List ℕ)) : Type 0 where
   pub count : ℕ
   pub written : Appends held_old held (replies_to s (take count (messages input)))
 
--- What was written is a front of the replies to the messages that were read: to those that are whole in what
--- was read, or, where the input was read to its end, to all.
+-- What was written is a front of the replies to the messages that were read: to those that are
+-- whole in what was read, or, where the input was read to its end, to all.
 pub record RepliesToRead (s : State) (old left held_old held : Option (List ℕ)) : Type 0 where
   pub taken : List ℕ
   pub consumed : Consumes old left taken
-  pub front : (IsAtEnd left × AppendsFront held_old held (replies s taken)) ⊎ AppendsFront held_old held (replies_to s (whole_messages taken))
+  pub front : (IsAtEnd left × AppendsFront held_old held (replies s taken))
+      ⊎ AppendsFront held_old held (replies_to s (whole_messages taken))

@@ -37,12 +37,14 @@ reply_to_piece More s = []
 
 -- the update of an order: the connection has the number 0, and its updates are counted from 0 on
 abbrev pub update_of : ℕ → Order → Update
-update_of seq order = record { origin = 0; seq = seq; time = order.time; text = order.text; act = order.act }
+update_of seq order =
+    record { origin = 0; seq = seq; time = order.time; text = order.text; act = order.act }
 
 -- a command takes one step; one without a time is skipped
 abbrev pub after_order : Counted → Option Order → Counted
 after_order at None = at
-after_order at (Some order) = record { state = step at.state (update_of at.count order); count = at.count + 1 }
+after_order at (Some order) =
+    record { state = step at.state (update_of at.count order); count = at.count + 1 }
 
 -- the state after a message, and how many updates led to it
 abbrev pub after_piece : KnownNames → Counted → Piece → Counted
@@ -52,7 +54,8 @@ after_piece names at (TooLong front) = at
 after_piece names at Empty = at
 after_piece names at More = at
 
--- whether a message is the last one of its connection: a query that doesn't keep it, or one that is too long
+-- whether a message is the last one of its connection: a query that doesn't keep it, or one that is
+-- too long
 abbrev pub is_last : Piece → Bool
 is_last (Query text) = not (keeps (asked text))
 is_last (Command text) = false
@@ -66,7 +69,8 @@ is_last More = true
 abbrev pub replies_from : KnownNames → Counted → List Piece → List ℕ
 replies_from names at [] = []
 replies_from names at (piece ∷ later) =
-    reply_to_piece piece at.state ++ (if is_last piece then [] else replies_from names (after_piece names at piece) later)
+    reply_to_piece piece at.state
+    ++ (if is_last piece then [] else replies_from names (after_piece names at piece) later)
 
 abbrev pub opening : State → Counted
 opening s = record { state = s; count = 0 }

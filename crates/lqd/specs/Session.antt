@@ -13,7 +13,8 @@ use Rattle.lqd.specs.declared.session.Next.TheVariants as next
 use Rattle.lqd.specs.declared.session.ServeErr.{ServeErr}
 use Rattle.lqd.specs.declared.session.ServeErr.TheVariants as error
 
--- The names by which commands speak of the objects, and the state with the number of updates that led to it.
+-- The names by which commands speak of the objects, and the state with the number of updates that
+-- led to it.
 pub record Standing : Type 0 where
   pub names : KnownNames
   pub at : Counted
@@ -29,7 +30,8 @@ behind old piece = record { names = old.names; at = after_piece old.names old.at
 -- ---- reading
 
 -- a read took bytes from the input and put them after those that are held; none at the end alone
-pub record Fills (ended : Bool) (left_old left_new : Option (List ℕ)) (old new : List ℕ) : Type 0 where
+pub record Fills (ended : Bool) (left_old left_new : Option (List ℕ))
+    (old new : List ℕ) : Type 0 where
   pub bytes : List ℕ
   pub taken : Consumes left_old left_new bytes
   pub held : new ≡ old ++ bytes
@@ -47,7 +49,8 @@ pub record ComesFirst (ended : Bool) (held : List ℕ) (piece : Piece) : Type 0 
       → (later : List Piece) × (whole_messages (held ++ rest) ≡ piece ∷ later)
 
 -- a message was cut off and served, and the connection goes on
-pub record Serves (ended : Bool) (held left : List ℕ) (old new : Standing) (out_old out : Option (List ℕ)) : Type 0 where
+pub record Serves (ended : Bool) (held left : List ℕ) (old new : Standing)
+    (out_old out : Option (List ℕ)) : Type 0 where
   pub piece : Piece
   pub cut : IsCutOff ended held piece left
   pub kept : is_last piece ≡ false
@@ -55,7 +58,8 @@ pub record Serves (ended : Bool) (held left : List ℕ) (old new : Standing) (ou
   pub written : Appends out_old out (reply_to_piece piece old.at.state)
 
 -- the last message of the connection was served
-pub record ServesLast (ended : Bool) (held : List ℕ) (old : Standing) (out_old out : Option (List ℕ)) : Type 0 where
+pub record ServesLast (ended : Bool) (held : List ℕ) (old : Standing)
+    (out_old out : Option (List ℕ)) : Type 0 where
   pub piece : Piece
   pub first : ComesFirst ended held piece
   pub last : is_last piece ≡ true
@@ -68,7 +72,8 @@ pub record FindsNone (ended : Bool) (held : List ℕ) (out_old out : Option (Lis
   pub written : Appends out_old out []
 
 -- nothing was done, and more bytes may come
-pub record WantsMore (ended : Bool) (held left : List ℕ) (old new : Standing) (out_old out : Option (List ℕ)) : Type 0 where
+pub record WantsMore (ended : Bool) (held left : List ℕ) (old new : Standing)
+    (out_old out : Option (List ℕ)) : Type 0 where
   pub end : ended ≡ false
   pub none : whole_messages held ≡ []
   pub same : left ≡ held
@@ -76,7 +81,8 @@ pub record WantsMore (ended : Bool) (held left : List ℕ) (old new : Standing) 
   pub state : new ≡ old
   pub written : Appends out_old out []
 
-abbrev pub Does : Next → Bool → List ℕ → List ℕ → Standing → Standing → Option (List ℕ) → Option (List ℕ) → Type 0
+abbrev pub Does : Next → Bool → List ℕ → List ℕ → Standing → Standing → Option (List ℕ)
+    → Option (List ℕ) → Type 0
 Does next.On ended held left old new out_old out = Serves ended held left old new out_old out
 Does next.Last ended held left old new out_old out = ServesLast ended held old out_old out
 Does next.Closed ended held left old new out_old out = FindsNone ended held out_old out
@@ -89,7 +95,8 @@ BreaksReply error.Write reply out_old out = AppendsFront out_old out reply
 BreaksReply error.Memory reply out_old out = Appends out_old out []
 
 -- a part of the reply to a message was written
-pub record CutsShort (ended : Bool) (held : List ℕ) (old : Standing) (out_old out : Option (List ℕ)) : Type 0 where
+pub record CutsShort (ended : Bool) (held : List ℕ) (old : Standing)
+    (out_old out : Option (List ℕ)) : Type 0 where
   pub piece : Piece
   pub first : ComesFirst ended held piece
   pub front : AppendsFront out_old out (reply_to_piece piece old.at.state)
@@ -103,8 +110,11 @@ Breaks error.Memory ended held old out_old out = Appends out_old out []
 -- ---- a connection
 
 -- what was read and written where a connection breaks off
-abbrev pub Stops : ServeErr → State → Option (List ℕ) → Option (List ℕ) → Option (List ℕ) → Option (List ℕ) → Type 0
+abbrev pub Stops : ServeErr → State → Option (List ℕ) → Option (List ℕ) → Option (List ℕ)
+    → Option (List ℕ) → Type 0
 Stops error.Read s old left out_old out = ReadsPart old left × RepliesToPart s old left out_old out
 Stops error.Write s old left out_old out =
-    RepliesToRead s old left out_old out × IfSome old (λ input. AppendsFront out_old out (replies s input))
-Stops error.Memory s old left out_old out = ReadsSome old left × IfSome old (λ input. RepliesToFirst s input out_old out)
+    RepliesToRead s old left out_old out
+    × IfSome old (λ input. AppendsFront out_old out (replies s input))
+Stops error.Memory s old left out_old out =
+    ReadsSome old left × IfSome old (λ input. RepliesToFirst s input out_old out)

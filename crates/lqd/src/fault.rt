@@ -56,7 +56,8 @@ impl Fault<'_> {
 
     /// Writes the fault's text and a line feed. It takes no memory.
     pub fn report<K: Sink>(self, sink: &mut K) -> Result<(), Failed>
-        ensures ok { OnOk result (Appends (K.held sink.old) (K.held sink.new) (text_of self.entry)) }
+        ensures ok { OnOk result
+            (Appends (K.held sink.old) (K.held sink.new) (text_of self.entry)) }
         ensures cause { HasCause (K.faults sink.old) (K.faults sink.new) result }
     {
         match self {

@@ -1,7 +1,7 @@
 //! lqd: a query server for the state of a monitoring core.
 //!
-//! `lqd ask OBJECTS` reads a Nagios object file, and serves the queries and external commands of its
-//! standard input.
+//! `lqd ask OBJECTS` reads a Nagios object file, and serves the queries and external commands of
+//! its standard input.
 #![tactic(auto)]
 
 mod command_line;

@@ -18,10 +18,10 @@ use lq_outside::{Files, LoadErr, Sink, Source};
 use lq_records::{Base, Rules};
 use std::alloc::Global;
 
-/// Runs the program: `ask OBJECTS` serves the messages of the input over the objects of a file. Each
-/// query is answered at the state that the commands before it left. The connection ends after a query
-/// without `KeepAlive: on`, after a message that is too long, after the 10,000th message, or with the
-/// input. The answer is the status that the program ends with:
+/// Runs the program: `ask OBJECTS` serves the messages of the input over the objects of a file.
+/// Each query is answered at the state that the commands before it left. The connection ends after
+/// a query without `KeepAlive: on`, after a message that is too long, after the 10,000th message,
+/// or with the input. The answer is the status that the program ends with:
 ///
 /// - 0: all messages up to the end of the connection were served. A command, a refused query and a
 ///   message that is too long write nothing.
@@ -45,7 +45,8 @@ pub fn run<R, F: Files, S: Source, K: Sink>(
     // The statuses, and when each may come.
     ensures status { IsStatus result }
     ensures usage { (result ≡ 1) ↔ (asked_path (map string_bytes words.now) ≡ None) }
-    ensures objects { result ≡ 2 → OnFile (asked_path (map string_bytes words.now)) (F.held_at files.old)
+    ensures objects { result ≡ 2
+        → OnFile (asked_path (map string_bytes words.now)) (F.held_at files.old)
         (λ _ file. IsRefused file) }
     ensures exactly { OnFile (asked_path (map string_bytes words.now)) (F.held_at files.old)
         (λ _ file. MustRefuse result file) }
@@ -57,20 +58,27 @@ pub fn run<R, F: Files, S: Source, K: Sink>(
     ensures untouched { (result ≡ 1) ⊎ (result ≡ 2) ⊎ (result ≡ 4)
         → (input.new ≡ input.old) × (output.new ≡ output.old) }
     ensures read { result ≡ 0 → ReadsAll (S.left input.old) (S.left input.new) }
-    ensures written { result ≡ 0 → OnFile (asked_path (map string_bytes words.now)) (F.held_at files.old)
+    ensures written { result ≡ 0
+        → OnFile (asked_path (map string_bytes words.now)) (F.held_at files.old)
         (λ _ file. OnBase file (λ base. IfSome (S.left input.old) (λ all.
         Appends (K.held output.old) (K.held output.new) (replies (opened base) all)))) }
     ensures part { result ≡ 5 → ReadsPart (S.left input.old) (S.left input.new) }
-    ensures part_written { result ≡ 5 → OnFile (asked_path (map string_bytes words.now)) (F.held_at files.old)
+    ensures part_written { result ≡ 5
+        → OnFile (asked_path (map string_bytes words.now)) (F.held_at files.old)
         (λ _ file. OnBase file (λ base.
-        RepliesToPart (opened base) (S.left input.old) (S.left input.new) (K.held output.old) (K.held output.new))) }
-    ensures cut_short { result ≡ 6 → OnFile (asked_path (map string_bytes words.now)) (F.held_at files.old)
+        RepliesToPart (opened base) (S.left input.old) (S.left input.new)
+        (K.held output.old) (K.held output.new))) }
+    ensures cut_short { result ≡ 6
+        → OnFile (asked_path (map string_bytes words.now)) (F.held_at files.old)
         (λ _ file. OnBase file (λ base. IfSome (S.left input.old) (λ all.
         AppendsFront (K.held output.old) (K.held output.new) (replies (opened base) all)))) }
-    ensures read_before { result ≡ 6 → OnFile (asked_path (map string_bytes words.now)) (F.held_at files.old)
+    ensures read_before { result ≡ 6
+        → OnFile (asked_path (map string_bytes words.now)) (F.held_at files.old)
         (λ _ file. OnBase file (λ base.
-        RepliesToRead (opened base) (S.left input.old) (S.left input.new) (K.held output.old) (K.held output.new))) }
-    ensures some_read { (result ≡ 6) ⊎ (result ≡ 7) → ReadsSome (S.left input.old) (S.left input.new) }
+        RepliesToRead (opened base) (S.left input.old) (S.left input.new)
+        (K.held output.old) (K.held output.new))) }
+    ensures some_read { (result ≡ 6) ⊎ (result ≡ 7)
+        → ReadsSome (S.left input.old) (S.left input.new) }
     ensures first_written { result ≡ 7 → (output.new ≡ output.old)
         ⊎ OnFile (asked_path (map string_bytes words.now)) (F.held_at files.old)
         (λ _ file. OnBase file (λ base. IfSome (S.left input.old) (λ all.
@@ -78,7 +86,8 @@ pub fn run<R, F: Files, S: Source, K: Sink>(
 
     // What the fault sink gets, where its count of faults doesn't rise.
     ensures report { ¬ Rose (K.faults faults.old) (K.faults faults.new)
-        → Reports (asked_path (map string_bytes words.now)) (F.held_at files.old) result (K.held faults.old) (K.held faults.new) }
+        → Reports (asked_path (map string_bytes words.now)) (F.held_at files.old) result
+        (K.held faults.old) (K.held faults.new) }
     ensures quiet { result ≡ 0 → faults.new ≡ faults.old }
 
     // No count falls, and no file changes.

@@ -23,7 +23,8 @@ use lq_request::{Cut, Cutting, ReadErr, read_request};
 use std::alloc::{AllocError, Global};
 use std::marker::Model;
 
-/// How many messages of a connection are served. A further one isn't looked at: the connection ends.
+/// How many messages of a connection are served. A further one isn't looked at: the connection
+/// ends.
 pub const MOST_MESSAGES: usize = 10_000;
 
 /// How many bytes are read at once. More would take more room for each connection.
@@ -50,10 +51,11 @@ impl From<AllocError> for ServeErr {
     }
 }
 
-/// Serves a connection: reads messages from the input, and writes the reply to each query before the
-/// next message is read. Each command takes its step of the state, which opens with each object pending. The
-/// connection ends after a query that doesn't keep it, after a message that is too long, after the
-/// 10,000th message, or at the end of the input. The errors are `Read`, `Write` and out of memory.
+/// Serves a connection: reads messages from the input, and writes the reply to each query before
+/// the next message is read. Each command takes its step of the state, which opens with each object
+/// pending. The connection ends after a query that doesn't keep it, after a message that is too
+/// long, after the 10,000th message, or at the end of the input. The errors are `Read`, `Write` and
+/// out of memory.
 pub fn serve<S: Source, K: Sink>(
     alloc: Global,
     base: Base,
@@ -68,18 +70,19 @@ pub fn serve<S: Source, K: Sink>(
         (S.left input.old) (S.left input.new) (K.held output.old) (K.held output.new)) }
     ensures input_later { S.faults input.old ≤ S.faults input.new }
     ensures output_later { K.faults output.old ≤ K.faults output.new }
-    ensures read_cause { result ≡ Err ServeErr.Read → Rose (S.faults input.old) (S.faults input.new) }
-    ensures write_cause { result ≡ Err ServeErr.Write → Rose (K.faults output.old) (K.faults output.new) }
+    ensures read_cause { result ≡ Err ServeErr.Read
+        → Rose (S.faults input.old) (S.faults input.new) }
+    ensures write_cause { result ≡ Err ServeErr.Write
+        → Rose (K.faults output.old) (K.faults output.new) }
 {
     let Ok((mut session, mut cut, mut piece)) = start(alloc, base) else {
         return Err(ServeErr::Memory);
     };
-    serve_all(alloc, &mut session, &mut cut, &mut piece, input, output)
+    serve_all(&mut session, &mut cut, &mut piece, input, output)
 }
 
 /// Serves the messages of an input from an opening state on.
 fn serve_all<S: Source, K: Sink>(
-    alloc: Global,
     session: &mut Session,
     cut: &mut Cut,
     piece: &mut [u8],
@@ -96,13 +99,15 @@ fn serve_all<S: Source, K: Sink>(
         (S.left input.old) (S.left input.new) (K.held output.old) (K.held output.new)) }
     ensures input_later { S.faults input.old ≤ S.faults input.new }
     ensures output_later { K.faults output.old ≤ K.faults output.new }
-    ensures read_cause { result ≡ Err ServeErr.Read → Rose (S.faults input.old) (S.faults input.new) }
-    ensures write_cause { result ≡ Err ServeErr.Write → Rose (K.faults output.old) (K.faults output.new) }
+    ensures read_cause { result ≡ Err ServeErr.Read
+        → Rose (S.faults input.old) (S.faults input.new) }
+    ensures write_cause { result ≡ Err ServeErr.Write
+        → Rose (K.faults output.old) (K.faults output.new) }
 {
     let mut ended = false;
     let mut left = MOST_MESSAGES;
     'messages: while left > 0 {
-        match session.next(alloc, cut, ended, output) {
+        match session.next(cut, ended, output) {
             Ok(Next::On) => left -= 1,
             Ok(Next::More) => match fill(input, cut, piece) {
                 Ok(end) => ended = end,
@@ -140,7 +145,8 @@ fn new_piece(alloc: Global) -> Result<Vec<u8>, Memory>
 fn fill<S: Source>(input: &mut S, cut: &mut Cut, piece: &mut [u8]) -> Result<bool, ServeErr>
     requires room { length cut.old ≤ MESSAGE_LIMIT }
     requires some { 0 < length piece.old }
-    ensures ok { IfOk result (λ ended. Fills ended (S.left input.old) (S.left input.new) cut.old cut.new) }
+    ensures ok { IfOk result
+        (λ ended. Fills ended (S.left input.old) (S.left input.new) cut.old cut.new) }
     ensures err { OnErr result (Keeps (S.left input.old) (S.left input.new)) }
     ensures same { OnErr result (cut.new ≡ cut.old) }
     ensures read { IfErr result (λ error. error ≡ ServeErr.Read) }
@@ -180,6 +186,7 @@ struct Answered {
 /// The state of the objects, and the names by which commands speak of them.
 #[derive(Drop)]
 struct Session {
+    alloc: Global,
     live: Live,
     names: ObjectNames,
 }
@@ -200,13 +207,12 @@ impl Session {
     {
         let names = ObjectNames::of(alloc, &base)?;
         let live = Live::open(alloc, base, LogBook::empty(alloc))?;
-        Ok(Session { live, names })
+        Ok(Session { alloc, live, names })
     }
 
     /// Serves the message that stands first in what is held.
     fn next<K: Sink>(
         &mut self,
-        alloc: Global,
         cut: &mut Cut,
         ended: bool,
         output: &mut K,
@@ -216,15 +222,16 @@ impl Session {
         ensures err { IfErr result (λ error. Breaks error ended cut.old self.old
             (K.held output.old) (K.held output.new)) }
         ensures later { K.faults output.old ≤ K.faults output.new }
-        ensures cause { result ≡ Err ServeErr.Write → Rose (K.faults output.old) (K.faults output.new) }
+        ensures cause { result ≡ Err ServeErr.Write
+            → Rose (K.faults output.old) (K.faults output.new) }
     {
         match cut.next_message(ended) {
-            Cutting::Query(text) => match self.answer(alloc, text, output) {
+            Cutting::Query(text) => match self.answer(text, output) {
                 Ok(true) => Ok(Next::On),
                 Ok(false) => Ok(Next::Last),
                 Err(error) => Err(error),
             },
-            Cutting::Command(text) => match self.command(alloc, text) {
+            Cutting::Command(text) => match self.command(text) {
                 Ok(()) => Ok(Next::On),
                 Err(_) => Err(ServeErr::Memory),
             },
@@ -235,7 +242,7 @@ impl Session {
     }
 
     /// Writes the reply to a query, and says whether the connection goes on.
-    fn answer<K: Sink>(&self, alloc: Global, text: &[u8], output: &mut K) -> Result<bool, ServeErr>
+    fn answer<K: Sink>(&self, text: &[u8], output: &mut K) -> Result<bool, ServeErr>
         ensures keep { IfOk result (λ keep. keep ≡ keeps (asked text.now)) }
         ensures ok { OnOk result (Appends (K.held output.old) (K.held output.new)
             (reply_to (asked text.now) self.now.at.state)) }
@@ -243,9 +250,10 @@ impl Session {
             BreaksReply error (reply_to (asked text.now) self.now.at.state)
             (K.held output.old) (K.held output.new)) }
         ensures later { K.faults output.old ≤ K.faults output.new }
-        ensures cause { result ≡ Err ServeErr.Write → Rose (K.faults output.old) (K.faults output.new) }
+        ensures cause { result ≡ Err ServeErr.Write
+            → Rose (K.faults output.old) (K.faults output.new) }
     {
-        let answered = self.reply(alloc, text)?;
+        let answered = self.reply(text)?;
         match write_all(output, answered.bytes.as_slice()) {
             Ok(()) => Ok(answered.keep),
             Err(_) => Err(ServeErr::Write),
@@ -253,17 +261,18 @@ impl Session {
     }
 
     /// The reply to a query. A refusal writes nothing.
-    fn reply(&self, alloc: Global, text: &[u8]) -> Result<Answered, Memory>
-        ensures bytes { IfOk result (λ answered. answered.bytes ≡ reply_to (asked text.now) self.now.at.state) }
+    fn reply(&self, text: &[u8]) -> Result<Answered, Memory>
+        ensures bytes { IfOk result
+            (λ answered. answered.bytes ≡ reply_to (asked text.now) self.now.at.state) }
         ensures keep { IfOk result (λ answered. answered.keep ≡ keeps (asked text.now)) }
     {
-        match read_request(alloc, text, self.live.base()) {
+        match read_request(self.alloc, text, self.live.base()) {
             Ok(request) => Ok(Answered {
-                bytes: answer(alloc, &self.live, &request)?.bytes,
+                bytes: answer(self.alloc, &self.live, &request)?.bytes,
                 keep: request.keep,
             }),
             Err(ReadErr::Refused { keep, .. }) => Ok(Answered {
-                bytes: Items::new(alloc),
+                bytes: Items::new(self.alloc),
                 keep,
             }),
             Err(ReadErr::Memory) => Err(AllocError),
@@ -271,10 +280,10 @@ impl Session {
     }
 
     /// Takes a command's step of the state. One without a time is skipped.
-    fn command(&mut self, alloc: Global, text: &[u8]) -> Result<(), Memory>
+    fn command(&mut self, text: &[u8]) -> Result<(), Memory>
         ensures { OnOk result (self.new ≡ behind self.old (Command text.now)) }
     {
-        match read_command(alloc, &self.names, text) {
+        match read_command(self.alloc, &self.names, text) {
             Ok(order) => self.live.apply(&update_of(self.live.count(), order)),
             Err(CommandErr::NoTime) => Ok(()),
             Err(CommandErr::Memory) => Err(AllocError),

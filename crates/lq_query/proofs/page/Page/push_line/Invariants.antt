@@ -9,4 +9,4 @@ invariant-loop-column l =
     l.body.items
     ++ (flat_map (λ later. 59 ∷ later)
     (texts_of l.self.live.now.state l.line (drop l.column-index l.later)) ++ 10 ∷ [])
-    ≡ l.fn.body.items ++ csv_line (texts_of l.self.live.now.state l.line l.self.request.now.columns)
+    ≡ l.fn.body.items ++ csv_line (texts_of l.self.live.now.state l.line l.self.columns.now)

@@ -8,7 +8,7 @@ abbrev pub invariant-loop-row : goal.invariant-loop-row
 invariant-loop-row l = record {
   lines :
       l.body.items
-      ++ csv (map (line_of l.self.live.now.state l.self.request.now.columns) (drop l.row-index l.rows))
-      ≡ l.fn.body.items ++ csv (map (line_of l.self.live.now.state l.self.request.now.columns) l.rows);
+      ++ csv (map (line_of l.self.live.now.state l.self.columns.now) (drop l.row-index l.rows))
+      ≡ l.fn.body.items ++ csv (map (line_of l.self.live.now.state l.self.columns.now) l.rows);
   small : length l.body.items ≤ REPLY_LIMIT;
 }
