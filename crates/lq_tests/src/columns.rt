@@ -1,19 +1,20 @@
 //! The columns of hosts and services, each with a value that isn't its default, and the counters of
 //! groups.
 
-use crate::fixture::{SITE, Step, assert_replies, assert_steps, opened};
+use crate::fixture::{SITE, Site, Step, assert_replies, assert_steps};
 use lq_columns::service_value;
 use lq_live::Live;
 use lq_records::{
     CommandId, ContactGroupId, ContactId, HostGroupId, HostId, PeriodId, ServiceGroupId, ServiceId,
 };
-use lq_schema::{Table, Val, column, column_at, column_count};
+use lq_schema::{Table, Val, column, column_at, column_count, column_name};
 use lq_tables::{Row, cell};
+use std::alloc::{AllocError, Global};
 use std::process::Abort;
 use std::test::Fail;
 
-/// web1 is down, http critical and soft, disk unknown and hard; web2 and ping were never checked. Both
-/// troubled hosts and http have downtimes and comments, and are acknowledged.
+/// web1 is down, http critical and soft, disk unknown and hard; web2 and ping were never checked.
+/// Both troubled hosts and http have downtimes and comments, and are acknowledged.
 const TROUBLE: &str = "[100] PROCESS_HOST_CHECK_RESULT;web1;1;down|x=1
 [100] PROCESS_SERVICE_CHECK_RESULT;web1;http;2;bad|t=2
 [100] PROCESS_SERVICE_CHECK_RESULT;web1;disk;3;odd|t=3
@@ -26,9 +27,9 @@ const TROUBLE: &str = "[100] PROCESS_HOST_CHECK_RESULT;web1;1;down|x=1
 
 const HOSTS: (&str, &str) = (
     "GET hosts\nColumnHeaders: off",
-    "web1;Web One;10.0.0.1;First;look!3;always;days;3;Mind it;/notes;/do;a.png;bert,anna,carl;all,ops;\
-web,first;SITE,_RACK,A;north,r2,;;web2;http,disk;1;1;1;1;1;1;100;100;100;down;x=1;1;2;1;1;2;1,3;\
-2;0;0;1;1;0;2
+    "web1;Web One;10.0.0.1;First;look!3;always;days;3;Mind it;/notes;/do;a.png;bert,anna,carl;\
+all,ops;web,first;SITE,_RACK,A;north,r2,;;web2;http,disk;1;1;1;1;1;1;100;100;100;down;x=1;\
+1;2;1;1;2;1,3;2;0;0;1;1;0;2
 web2;web2;;web2;;;;1;;;;;;;web,second;;;web1;;ping;0;1;0;0;0;1;0;0;0;;;0;0;0;0;;;1;0;0;0;0;1;0
 ",
 );
@@ -49,9 +50,7 @@ disk;disk;;;;1;;;;;;;rest;;;3;1;3;3;1;1;100;100;100;odd;t=3;0;0;0;1;;
 
 #[test]
 fn hosts_and_services_show_their_columns(rt: HostRuntime) -> Result<(), Fail> {
-    let mut site = opened(rt.alloc(), SITE)?;
-    site.play(rt.alloc(), TROUBLE)?;
-    assert_replies(&rt, &site, &[HOSTS, SERVICES])
+    assert_replies(&rt, SITE, TROUBLE, &[HOSTS, SERVICES])
 }
 
 /// The counters of services, of hosts, of groups of hosts and of groups of services.
@@ -63,7 +62,7 @@ Columns: num_services_unknown num_services_pending worst_service_state\n
 GET servicegroups\nColumns: name num_services num_services_ok num_services_warn num_services_crit
 Columns: num_services_unknown num_services_pending worst_service_state";
 
-const SERVICES_CHECKED: &[Step] = &[
+const SERVICES_CHECKED: &[Step<'static>] = &[
     (
         "",
         0,
@@ -114,7 +113,7 @@ const HOST_COUNTERS: &str =
     "GET hostgroups\nColumns: name num_hosts num_hosts_up num_hosts_down num_hosts_unreach
 Columns: num_hosts_pending worst_host_state";
 
-const HOSTS_CHECKED: &[Step] = &[
+const HOSTS_CHECKED: &[Step<'static>] = &[
     (
         "",
         0,
@@ -181,28 +180,35 @@ fn is_nothing(value: &Val<'_>) -> bool {
     }
 }
 
-fn assert_nothing<R: Abort + AllocGlobal>(
-    rt: &R,
+/// The first column of a row that has something, if one has.
+fn something(
+    alloc: Global,
     live: &Live,
     table: Table,
-    row: Row,
-) -> Result<(), Fail> {
+    row: &Row,
+) -> Result<Option<&'static str>, AllocError> {
     for i in 0..column_count(table) {
-        let value = cell(rt.alloc(), live, table, column_at(table, i), &row)?;
-        assert!(rt; is_nothing(&value), "column {i} of {}", table.name());
+        let column = column_at(table, i);
+        if !is_nothing(&cell(alloc, live, table, column, row)?) {
+            return Ok(Some(column_name(column).name));
+        }
     }
+    Ok(None)
+}
+
+/// Reads each such row, and a column of hosts of a service, which has none.
+fn assert_nothing<R: Abort + AllocGlobal>(rt: &R, live: &Live) -> Result<(), Fail> {
+    for (table, row) in NOWHERE {
+        let found = something(rt.alloc(), live, *table, row)?;
+        assert!(rt; found.is_none(), "{} has {found:?}", table.name());
+    }
+    let name = column(Table::Hosts, "name").ok_or("no column")?;
+    assert!(rt; is_nothing(&service_value(rt.alloc(), live, name, ServiceId(0))?));
     Ok(())
 }
 
 #[test]
 fn rows_that_name_nothing_are_empty(rt: HostRuntime) -> Result<(), Fail> {
-    let site = opened(rt.alloc(), SITE)?;
-    for (table, row) in NOWHERE {
-        assert_nothing(&rt, &site.live, *table, *row)?;
-    }
-    // A service has no columns of hosts.
-    let name = column(Table::Hosts, "name").ok_or("no column")?;
-    let value = service_value(rt.alloc(), &site.live, name, ServiceId(0))?;
-    assert!(rt; is_nothing(&value));
-    Ok(())
+    let site = Site::open(rt.alloc(), SITE, SITE)?;
+    assert_nothing(&rt, &site.live)
 }

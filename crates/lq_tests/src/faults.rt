@@ -1,5 +1,6 @@
 //! The faults of object files, each with its line, and the limits.
 
+use crate::fixture::joined;
 use lq_objects::{ObjectsErr, read_objects};
 use lq_records::Rules;
 use std::alloc::{AllocError, Global};
@@ -9,66 +10,32 @@ use std::test::Fail;
 /// A file, the line of its first fault and what is wrong there.
 type Fault<'a> = (&'a [u8], u64, &'a str);
 
-/// The line of a file's first fault and what is wrong there, or `none`.
-fn fault_in(alloc: Global, file: &[u8]) -> Result<String, Fail> {
-    match read_objects(alloc, file, Rules::default()) {
-        Ok(_) => Ok(String::from_str(alloc, "none")?),
-        Err(ObjectsErr::At { line, what }) => {
-            let what = what.text();
-            Ok(format!(in alloc; "{line} {what}")?)
-        }
-        Err(ObjectsErr::Memory(_)) => Err(Fail::new("out of memory")),
+/// The line of a file's first fault and what is wrong there, or 0 and `none`.
+fn fault_in(alloc: Global, file: &[u8]) -> (u64, &'static str) {
+    match read_objects(alloc, file, Rules::default()).err() {
+        None => (0, "none"),
+        Some(ObjectsErr::At { line, what }) => (line, what.text()),
+        Some(ObjectsErr::Memory(_)) => (0, "out of memory"),
     }
 }
 
-fn assert_fault<R: Abort + AllocGlobal>(
-    rt: &R,
-    file: &[u8],
-    line: u64,
-    what: &str,
-) -> Result<(), Fail> {
-    let fault = fault_in(rt.alloc(), file)?;
-    let expected = format!(in rt.alloc(); "{line} {what}")?;
-    assert_eq!(rt; fault.as_str(), expected.as_str(), "in {file:?}");
-    Ok(())
+fn assert_fault<R: Abort + AllocGlobal>(rt: &R, (file, line, what): Fault<'_>) {
+    let found = fault_in(rt.alloc(), file);
+    assert!(rt; found.0 == line && found.1 == what, "{found:?} in {file:?}");
 }
 
-fn assert_faults<R: Abort + AllocGlobal>(rt: &R, faults: &[Fault<'_>]) -> Result<(), Fail> {
-    for (file, line, what) in faults {
-        assert_fault(rt, *file, *line, *what)?;
-    }
-    Ok(())
-}
-
-/// Compares faults in files that come after others, whose lines are counted too.
-fn assert_later_faults<R: Abort + AllocGlobal>(
+/// Compares the faults of files that stand between others. The lines of the others before them are
+/// counted too.
+fn assert_faults<R: Abort + AllocGlobal>(
     rt: &R,
-    front: &[u8],
-    lines: u64,
+    (front, lines, back): (&[u8], u64, &[u8]),
     faults: &[Fault<'_>],
 ) -> Result<(), Fail> {
     for (file, line, what) in faults {
-        let whole = joined(rt.alloc(), &[front, *file])?;
-        assert_fault(rt, &whole, line.wrapping_add(lines), *what)?;
+        let whole = joined(rt.alloc(), &[front, *file, back])?;
+        assert_fault(rt, (&whole, line.wrapping_add(lines), *what));
     }
     Ok(())
-}
-
-fn assert_faultless<R: Abort + AllocGlobal>(rt: &R, files: &[&[u8]]) -> Result<(), Fail> {
-    for file in files {
-        let fault = fault_in(rt.alloc(), *file)?;
-        assert_eq!(rt; fault.as_str(), "none", "in {file:?}");
-    }
-    Ok(())
-}
-
-/// Parts of a file as one.
-fn joined(alloc: Global, parts: &[&[u8]]) -> Result<Vec<u8>, AllocError> {
-    let mut file = Vec::new(alloc);
-    for part in parts {
-        file.extend_from_slice(*part)?;
-    }
-    Ok(file)
 }
 
 // ---- lines and blocks
@@ -187,9 +154,11 @@ const FIRST: &[Fault<'static>] = &[
 
 // ---- templates, numbers and names in each kind
 
-/// The kinds that are read, the directives of a name, and the line where a second block with that name
+/// A kind that is read, the directives of a name, and the line where a second block with that name
 /// closes, if a host `z` stands between the two.
-const KINDS: &[(&[u8], &[u8], u64)] = &[
+type Kind<'a> = (&'a [u8], &'a [u8], u64);
+
+const KINDS: &[Kind<'static>] = &[
     (b"host", b"host_name a\n", 9),
     (b"service", b"host_name a\nservice_description b\n", 11),
     (b"hostgroup", b"hostgroup_name a\n", 9),
@@ -208,34 +177,39 @@ const TEMPLATES: &[&[u8]] = &[
     b"register",
 ];
 
+/// The fault of a file of parts.
+fn assert_parts<R: Abort + AllocGlobal>(
+    rt: &R,
+    parts: &[&[u8]],
+    line: u64,
+    what: &str,
+) -> Result<(), Fail> {
+    let file = joined(rt.alloc(), parts)?;
+    assert_fault(rt, (&file, line, what));
+    Ok(())
+}
+
 /// Reads blocks of a kind: of a template, without a name, and with one name twice.
 fn assert_kind<R: Abort + AllocGlobal>(
     rt: &R,
-    kind: &[u8],
-    name: &[u8],
-    line: u64,
+    (kind, name, line): Kind<'static>,
 ) -> Result<(), Fail> {
     for template in TEMPLATES {
-        let file = joined(
-            rt.alloc(),
-            &[b"define ", kind, b" {\n", *template, b"\n", name, b"}\n"],
-        )?;
-        assert_fault(rt, &file, 2, "not flattened")?;
+        let parts: &[&[u8]] = &[b"define ", kind, b" {\n", *template, b"\n", name, b"}\n"];
+        assert_parts(rt, parts, 2, "not flattened")?;
     }
-    let file = joined(rt.alloc(), &[b"define ", kind, b" {\nalias a\n}\n"])?;
-    assert_fault(rt, &file, 3, "no name")?;
-    let block = joined(rt.alloc(), &[b"define ", kind, b" {\n", name, b"}\n"])?;
-    let twice = joined(
-        rt.alloc(),
-        &[&block, b"define host {\nhost_name z\n}\n", &block],
-    )?;
-    assert_fault(rt, &twice, line, "twice")
+    assert_parts(rt, &[b"define ", kind, b" {\nalias a\n}\n"], 3, "no name")?;
+    let between = b"}\ndefine host {\nhost_name z\n}\ndefine ".as_slice();
+    let parts: &[&[u8]] = &[
+        b"define ", kind, b" {\n", name, between, kind, b" {\n", name, b"}\n",
+    ];
+    assert_parts(rt, parts, line, "twice")
 }
 
 #[test]
 fn each_kind_has_names_and_no_templates(rt: HostRuntime) -> Result<(), Fail> {
-    for (kind, name, line) in KINDS {
-        assert_kind(&rt, *kind, *name, *line)?;
+    for kind in KINDS {
+        assert_kind(&rt, *kind)?;
     }
     Ok(())
 }
@@ -259,17 +233,16 @@ const BAD_NUMBERS: &[&[u8]] = &[
     b"notifications_enabled yes",
 ];
 
+const OF_A_HOST: &[u8] = b"define host {\nhost_name a\n";
+
+const OF_A_SERVICE: &[u8] = b"define host {\nhost_name a\n}
+define service {\nhost_name a\nservice_description b\n";
+
 #[test]
 fn numbers_outside_their_ranges_are_refused(rt: HostRuntime) -> Result<(), Fail> {
-    let host = b"define host {\nhost_name a\n".as_slice();
-    let service = b"define host {\nhost_name a\n}
-define service {\nhost_name a\nservice_description b\n"
-        .as_slice();
     for number in BAD_NUMBERS {
-        let of_host = joined(rt.alloc(), &[host, *number, b"\n}\n"])?;
-        assert_fault(&rt, &of_host, 3, "bad number")?;
-        let of_service = joined(rt.alloc(), &[service, *number, b"\n}\n"])?;
-        assert_fault(&rt, &of_service, 7, "bad number")?;
+        assert_parts(&rt, &[OF_A_HOST, *number, b"\n}\n"], 3, "bad number")?;
+        assert_parts(&rt, &[OF_A_SERVICE, *number, b"\n}\n"], 7, "bad number")?;
     }
     Ok(())
 }
@@ -377,9 +350,9 @@ fn lines_blocks_and_names_are_refused(rt: HostRuntime) -> Result<(), Fail> {
     for faults in [
         STRAY, UNCLOSED, FIRST, NO_NAMES, BAD_NAMES, TWICE, REPLACED, IN_ORDER,
     ] {
-        assert_faults(&rt, faults)?;
+        assert_faults(&rt, (b"", 0, b""), faults)?;
     }
-    assert_later_faults(&rt, HOST, 3, BAD_NAMES)
+    assert_faults(&rt, (HOST, 3, b""), BAD_NAMES)
 }
 
 // ---- names that aren't there
@@ -504,7 +477,8 @@ const FIRST_UNKNOWN: &[Fault<'static>] = &[
         "unknown name",
     ),
     (
-        b"define hostgroup {\nhostgroup_name g\nmembers x\n}\ndefine host {\nhost_name a\nparents x\n}\n",
+        b"define hostgroup {\nhostgroup_name g\nmembers x\n}
+define host {\nhost_name a\nparents x\n}\n",
         3,
         "unknown name",
     ),
@@ -522,12 +496,9 @@ const FIRST_UNKNOWN: &[Fault<'static>] = &[
 
 #[test]
 fn names_that_are_not_there_are_refused(rt: HostRuntime) -> Result<(), Fail> {
-    assert_later_faults(&rt, THERE, 13, UNKNOWN)?;
-    for (file, line, what) in UNKNOWN {
-        let whole = joined(rt.alloc(), &[*file, THERE])?;
-        assert_fault(&rt, &whole, *line, *what)?;
-    }
-    assert_faults(&rt, FIRST_UNKNOWN)
+    assert_faults(&rt, (THERE, 13, b""), UNKNOWN)?;
+    assert_faults(&rt, (b"", 0, THERE), UNKNOWN)?;
+    assert_faults(&rt, (b"", 0, b""), FIRST_UNKNOWN)
 }
 
 // ---- what is no fault
@@ -556,7 +527,8 @@ define service {\nhost_name x\nservice_description b\nhost_name a\n}\n",
     b"define hostgroup {\nhostgroup_name a\nparents x\ncontacts x\ncontact_groups x\n}\n",
     b"define contact {\ncontact_name a\nmembers x\ncontacts x\ncontact_groups x\n}\n",
     b"define host {\nhost_name a\ncheck_command x!1\ncheck_period x\nnotification_period x\n}\n",
-    b"define contact {\ncontact_name a\nhost_notification_period x\nservice_notification_period x\n}\n",
+    b"define contact {\ncontact_name a\nhost_notification_period x
+service_notification_period x\n}\n",
     b"define host {\nhost_name a\nparents a\n}\n",
     // Names of other kinds, of other hosts and in other cases are other names.
     b"define host {\nhost_name b\n}\ndefine host {\nhost_name a\n}\ndefine host {\nhost_name A\n}
@@ -569,14 +541,16 @@ define timeperiod {\ntimeperiod_name a\n}\ndefine command {\ncommand_name a\n}\n
 ];
 
 #[test]
-fn other_words_kinds_and_names_are_no_faults(rt: HostRuntime) -> Result<(), Fail> {
-    assert_faultless(&rt, FAULTLESS)
+fn other_words_kinds_and_names_are_no_faults(rt: HostRuntime) {
+    for file in FAULTLESS {
+        assert_fault(&rt, (*file, 0, "none"));
+    }
 }
 
 // ---- limits
 
-/// A file that begins with `front`, and as many blocks as `count` says. Each begins with `block`, and
-/// after it the blocks' numbers stand, from 0.
+/// A file that begins with `front`, and as many blocks as `count` says. Each begins with `block`,
+/// and after it the blocks' numbers stand, from 0.
 fn numbered(alloc: Global, front: &[u8], block: &[u8], count: u64) -> Result<Vec<u8>, AllocError> {
     let mut file = Vec::from_slice(alloc, front)?;
     for number in 0..count {
@@ -588,8 +562,8 @@ fn numbered(alloc: Global, front: &[u8], block: &[u8], count: u64) -> Result<Vec
     Ok(file)
 }
 
-/// The front of a file, a block, how many of them there may be, and the line where one more closes, if
-/// each has four lines.
+/// The front of a file, a block, how many of them there may be, and the line where one more closes,
+/// if each has four lines.
 type Limit<'a> = (&'a [u8], &'a [u8], u64, u64);
 
 const LIMITS: &[Limit<'static>] = &[
@@ -644,11 +618,12 @@ fn assert_limit<R: Abort + AllocGlobal>(
     rt: &R,
     (front, block, most, line): Limit<'_>,
 ) -> Result<(), Fail> {
-    let file = numbered(rt.alloc(), front, block, most)?;
-    let fault = fault_in(rt.alloc(), &file)?;
-    assert_eq!(rt; fault.as_str(), "none");
-    let file = joined(rt.alloc(), &[&file, block, b"x\n}\n"])?;
-    assert_fault(rt, &file, line, "too many")
+    let mut file = numbered(rt.alloc(), front, block, most)?;
+    assert!(rt; fault_in(rt.alloc(), &file).1 == "none");
+    file.extend_from_slice(block)?;
+    file.extend_from_slice(b"x\n}\n")?;
+    assert!(rt; fault_in(rt.alloc(), &file) == (line, "too many"));
+    Ok(())
 }
 
 #[test]
@@ -681,5 +656,5 @@ const AFTER_ALL: &[Fault<'static>] = &[
 fn faults_of_one_block_go_in_their_order(rt: HostRuntime) -> Result<(), Fail> {
     let block = b"define host {\nalias a\nhost_name ".as_slice();
     let hosts = numbered(rt.alloc(), b"", block, 10_000)?;
-    assert_later_faults(&rt, &hosts, 40_000, AFTER_ALL)
+    assert_faults(&rt, (&hosts, 40_000, b""), AFTER_ALL)
 }

@@ -10,14 +10,15 @@ use lq_log::LogBook;
 use lq_objects::read_objects;
 use lq_query::answer;
 use lq_records::{Base, Rules, Text, clean_text};
-use lq_request::{ReadErr, Request, read_request};
+use lq_request::{Request, read_request};
 use std::alloc::{AllocError, Global};
+use std::fmt::Debug;
 use std::process::Abort;
 use std::test::Fail;
 
-/// web1 with http and disk, and web2 below it with ping. web1 and http have a value of their own for
-/// each directive.
-pub const SITE: &str = "define timeperiod {
+/// web1 with http and disk, and web2 below it with ping. web1 and http have a value of their own
+/// for each directive.
+pub(crate) const SITE: &[u8] = b"define timeperiod {
  timeperiod_name always
  alias Always
  }
@@ -144,13 +145,35 @@ define servicegroup {
 
 /// The names by which commands speak of objects, and the state that the commands change.
 #[derive(Drop)]
-pub struct Site {
+pub(crate) struct Site {
     pub names: ObjectNames,
     pub live: Live,
 }
 
+/// Compares a text with the expected one.
+pub(crate) fn assert_same(rt: &impl Abort, found: &str, expected: &str, case: &impl Debug) {
+    assert_eq!(rt; found, expected, "at {case:?}");
+}
+
+/// Parts as one.
+pub(crate) fn joined(alloc: Global, parts: &[&[u8]]) -> Result<Vec<u8>, AllocError> {
+    let mut whole = Vec::new(alloc);
+    for part in parts {
+        whole.extend_from_slice(*part)?;
+    }
+    Ok(whole)
+}
+
+/// Adds texts to a text.
+pub(crate) fn push_all(text: &mut String, parts: &[&str]) -> Result<(), AllocError> {
+    for part in parts {
+        text.push_str(*part)?;
+    }
+    Ok(())
+}
+
 /// The base of an object file, which is without a fault.
-pub(crate) fn base_of(alloc: Global, objects: &[u8]) -> Result<Base, Fail>
+fn base_of(alloc: Global, objects: &[u8]) -> Result<Base, Fail>
     ensures { IfOk result IsSound }
 {
     match read_objects(alloc, objects, Rules::default()) {
@@ -159,131 +182,156 @@ pub(crate) fn base_of(alloc: Global, objects: &[u8]) -> Result<Base, Fail>
     }
 }
 
-/// A site whose objects are pending.
-pub(crate) fn opened(alloc: Global, objects: &str) -> Result<Site, Fail> {
-    site_of(alloc, objects.as_bytes())
-}
-
-/// The site of an object file's bytes.
-pub(crate) fn site_of(alloc: Global, objects: &[u8]) -> Result<Site, Fail> {
+/// The names of an object file.
+pub(crate) fn names_of(alloc: Global, objects: &[u8]) -> Result<ObjectNames, Fail> {
     let base = base_of(alloc, objects)?;
-    let names = ObjectNames::of(alloc, &base)?;
-    let live = Live::open(alloc, base, LogBook::empty(alloc))?;
-    Ok(Site { names, live })
+    let names = ObjectNames::of(alloc, &base);
+    drop(base);
+    Ok(names?)
 }
 
-/// The update that takes an act at a second.
-fn update_at(time: u64, text: Text, act: Act) -> Update {
-    Update {
-        origin: 0,
-        seq: 0,
-        time,
-        text,
-        act,
-    }
+/// The opening state of an object file.
+fn live_of(alloc: Global, objects: &[u8]) -> Result<Live, Fail> {
+    let base = base_of(alloc, objects)?;
+    Ok(Live::open(alloc, base, LogBook::empty(alloc))?)
 }
 
-/// What a message is answered: the reply, or the code and the text of its refusal.
-pub(crate) fn reply(alloc: Global, live: &Live, message: &[u8]) -> Result<Text, Fail> {
-    match read_request(alloc, message, live.base()) {
-        Ok(request) => Ok(answered(alloc, live, &request)?),
-        Err(ReadErr::Refused { refusal, .. }) => {
-            let text = format!(in alloc; "{} {}", refusal.code, refusal.text.as_str())?;
-            Ok(Text::from_string(text))
-        }
-        Err(ReadErr::Memory) => Err(Fail::new("out of memory")),
-    }
-}
-
-fn answered(alloc: Global, live: &Live, request: &Request) -> Result<Text, AllocError> {
-    let reply = answer(alloc, live, request)?;
-    if reply.code == 200 {
-        return clean_text(alloc, reply.bytes.as_slice());
-    }
-    Ok(Text::from_string(reply.code.to_string(alloc)?))
+/// The site of an object file, on which commands are played, and what queries are answered then.
+pub(crate) fn asked(
+    alloc: Global,
+    objects: &[u8],
+    commands: &str,
+    queries: &str,
+) -> Result<Text, Fail> {
+    let mut site = Site::open(alloc, objects, objects)?;
+    site.play_and_ask(alloc, commands, queries)
 }
 
 impl Site {
+    /// The site of an object file, whose commands know the names of another one. It is in a box, so
+    /// that how its many parts are dropped is proved once.
+    pub(crate) fn open(alloc: Global, names: &[u8], objects: &[u8]) -> Result<Box<Self>, Fail> {
+        let names = names_of(alloc, names)?;
+        let live = live_of(alloc, objects)?;
+        Ok(Box::new(alloc, Site { names, live })?)
+    }
+
     /// Plays commands, one a line.
-    pub fn play(&mut self, alloc: Global, commands: &str) -> Result<(), Fail> {
+    fn play(&mut self, alloc: Global, commands: &str) -> Result<(), Fail> {
         for line in commands.split('\n') {
-            self.play_line(alloc, line)?;
+            if !line.is_empty() {
+                self.play_line(alloc, line)?;
+            }
         }
         Ok(())
     }
 
     fn play_line(&mut self, alloc: Global, line: &str) -> Result<(), Fail> {
-        if line.is_empty() {
-            return Ok(());
+        match read_command(alloc, &self.names, line.as_bytes()) {
+            Ok(Order { time, text, act }) => Ok(self.apply(time, text, act)?),
+            Err(_) => Err(Fail::new("a command without a second")),
         }
-        let Ok(order) = read_command(alloc, &self.names, line.as_bytes()) else {
-            return Err(Fail::new("a command without a second"));
-        };
-        let Order { time, text, act } = order;
-        self.live.apply(&update_at(time, text, act))?;
-        Ok(())
     }
 
-    /// Applies an act that no command line says.
-    pub fn apply(&mut self, alloc: Global, time: u64, act: Act) -> Result<(), Fail> {
-        self.live.apply(&update_at(time, Text::empty(alloc), act))?;
-        Ok(())
+    /// Applies an act.
+    pub(crate) fn apply(&mut self, time: u64, text: Text, act: Act) -> Result<(), AllocError> {
+        let update = Update {
+            origin: 0,
+            seq: 0,
+            time,
+            text,
+            act,
+        };
+        self.live.apply(&update)
     }
 
     /// What queries are answered, one after another. An empty line stands between two.
-    pub fn ask(&self, alloc: Global, queries: &str) -> Result<String, Fail> {
-        let mut replies = String::new(alloc);
+    pub(crate) fn ask(&self, alloc: Global, queries: &str) -> Result<Text, Fail> {
+        let mut replies = Vec::new(alloc);
         for query in queries.split("\n\n") {
-            let reply = reply(alloc, &self.live, query.as_bytes())?;
-            replies.push_str(reply.as_str())?;
+            self.push_reply(alloc, &mut replies, query.as_bytes())?;
         }
-        Ok(replies)
+        Ok(clean_text(alloc, &replies)?)
+    }
+
+    fn push_reply(&self, alloc: Global, replies: &mut Vec<u8>, query: &[u8]) -> Result<(), Fail> {
+        match read_request(alloc, query, self.live.base()) {
+            Ok(request) => Ok(self.push_answer(alloc, replies, &request)?),
+            Err(_) => Err(Fail::new("a query is refused")),
+        }
+    }
+
+    fn push_answer(
+        &self,
+        alloc: Global,
+        replies: &mut Vec<u8>,
+        request: &Request,
+    ) -> Result<(), AllocError> {
+        let reply = answer(alloc, &self.live, request)?;
+        if reply.code != 200 {
+            return replies.extend_from_slice(b"too large");
+        }
+        replies.extend_from_slice(reply.bytes.as_slice())
+    }
+
+    /// Plays commands, and gives what queries are answered then.
+    fn play_and_ask(&mut self, alloc: Global, commands: &str, queries: &str) -> Result<Text, Fail> {
+        self.play(alloc, commands)?;
+        self.ask(alloc, queries)
+    }
+
+    /// Plays commands, and compares how many lines they write, and what queries are answered then.
+    pub(crate) fn assert_step<R: Abort + AllocGlobal>(
+        &mut self,
+        rt: &R,
+        queries: &str,
+        (commands, lines, expected): Step<'_>,
+    ) -> Result<(), Fail> {
+        let before = self.live.log().len();
+        let replies = self.play_and_ask(rt.alloc(), commands, queries)?;
+        let written = self.live.log().len().saturating_sub(before);
+        assert!(rt; written == lines, "{written} lines of {commands}");
+        assert_same(rt, replies.as_str(), expected, &commands);
+        Ok(())
+    }
+
+    fn assert_steps<R: Abort + AllocGlobal>(
+        &mut self,
+        rt: &R,
+        queries: &str,
+        steps: &[Step<'_>],
+    ) -> Result<(), Fail> {
+        for step in steps {
+            self.assert_step(rt, queries, *step)?;
+        }
+        Ok(())
     }
 }
 
 /// Commands, how many lines they write into the log, and what queries are answered after them.
-pub type Step = (&'static str, usize, &'static str);
+pub(crate) type Step<'a> = (&'a str, usize, &'a str);
 
 /// Plays steps on a site, and compares what each leaves.
 pub(crate) fn assert_steps<R: Abort + AllocGlobal>(
     rt: &R,
-    objects: &str,
+    objects: &[u8],
     queries: &str,
-    steps: &[Step],
+    steps: &[Step<'_>],
 ) -> Result<(), Fail> {
-    let mut site = opened(rt.alloc(), objects)?;
-    for (commands, lines, expected) in steps {
-        assert_step(rt, &mut site, queries, *commands, (*lines, *expected))?;
-    }
-    Ok(())
+    let mut site = Site::open(rt.alloc(), objects, objects)?;
+    site.assert_steps(rt, queries, steps)
 }
 
-/// Plays commands, and compares how many lines they write, and what queries are answered then.
-pub(crate) fn assert_step<R: Abort + AllocGlobal>(
-    rt: &R,
-    site: &mut Site,
-    queries: &str,
-    commands: &str,
-    expected: (usize, &str),
-) -> Result<(), Fail> {
-    let before = site.live.log().len();
-    site.play(rt.alloc(), commands)?;
-    let written = site.live.log().len().saturating_sub(before);
-    assert_eq!(rt; written, expected.0, "lines of {commands}");
-    let replies = site.ask(rt.alloc(), queries)?;
-    assert_eq!(rt; replies.as_str(), expected.1, "after {commands}");
-    Ok(())
-}
-
-/// Compares what queries are answered.
+/// Compares what queries are answered after commands.
 pub(crate) fn assert_replies<R: Abort + AllocGlobal>(
     rt: &R,
-    site: &Site,
+    objects: &[u8],
+    commands: &str,
     cases: &[(&str, &str)],
 ) -> Result<(), Fail> {
     for (queries, expected) in cases {
-        let replies = site.ask(rt.alloc(), *queries)?;
-        assert_eq!(rt; replies.as_str(), *expected, "to {queries}");
+        let replies = asked(rt.alloc(), objects, commands, *queries)?;
+        assert_same(rt, replies.as_str(), *expected, queries);
     }
     Ok(())
 }

@@ -1,15 +1,15 @@
-//! What each command does to hosts, services, downtimes, comments and switches, and how many lines it
-//! writes.
+//! What each command does to hosts, services, downtimes, comments and switches, and how many lines
+//! it writes.
 
-use crate::fixture::{SITE, Site, Step, assert_step, assert_steps, opened};
+use crate::fixture::{SITE, Site, Step, assert_steps, joined};
 use lq_events::Act;
 use lq_records::{HostId, ServiceId, Text};
-use std::alloc::Global;
+use std::alloc::{AllocError, Global};
 use std::process::Abort;
 use std::test::Fail;
 
 /// One service whose trouble is hard at its third result, and one where it is at its first.
-const SERVICES: &str = "define host {
+const SERVICES: &[u8] = b"define host {
  host_name web1
  }
 define service {
@@ -23,21 +23,41 @@ define service {
  }
 ";
 
-/// The second and the code of a result, how many lines it writes, and what a query is answered then.
+/// The second and the code of a result, how many lines it writes, and what a query is answered
+/// then.
 type Checked = (u64, u64, usize, &'static str);
 
-fn assert_results<R: Abort + AllocGlobal>(
+/// Plays a result of a command, and compares what it leaves.
+fn assert_result<R: Abort + AllocGlobal>(
     rt: &R,
-    query: &str,
-    command: &str,
+    site: &mut Site,
+    (query, command): (&str, &str),
+    (second, code, lines, expected): Checked,
+) -> Result<(), Fail> {
+    let line = format!(in rt.alloc(); "[{second}] {command};{code};said")?;
+    site.assert_step(rt, query, (line.as_str(), lines, expected))
+}
+
+fn assert_each<R: Abort + AllocGlobal>(
+    rt: &R,
+    site: &mut Site,
+    asked: (&str, &str),
     results: &[Checked],
 ) -> Result<(), Fail> {
-    let mut site = opened(rt.alloc(), SERVICES)?;
-    for (second, code, lines, expected) in results {
-        let command = format!(in rt.alloc(); "[{second}] {command};{code};said")?;
-        assert_step(rt, &mut site, query, command.as_str(), (*lines, *expected))?;
+    for result in results {
+        assert_result(rt, site, asked, *result)?;
     }
     Ok(())
+}
+
+/// Plays results one after another. A query and the command come first.
+fn assert_results<R: Abort + AllocGlobal>(
+    rt: &R,
+    asked: (&str, &str),
+    results: &[Checked],
+) -> Result<(), Fail> {
+    let mut site = Site::open(rt.alloc(), SERVICES, SERVICES)?;
+    assert_each(rt, &mut site, asked, results)
 }
 
 const OF_SERVICES: &str = "GET services\nColumns: state state_type current_attempt";
@@ -87,9 +107,9 @@ const WEB1: &str = "PROCESS_HOST_CHECK_RESULT;web1";
 
 #[test]
 fn results_are_soft_up_to_the_largest_number_of_attempts(rt: HostRuntime) -> Result<(), Fail> {
-    assert_results(&rt, OF_SERVICES, HTTP, THREE_ATTEMPTS)?;
-    assert_results(&rt, OF_SERVICES, DISK, ONE_ATTEMPT)?;
-    assert_results(&rt, OF_HOSTS, WEB1, OF_A_HOST)
+    assert_results(&rt, (OF_SERVICES, HTTP), THREE_ATTEMPTS)?;
+    assert_results(&rt, (OF_SERVICES, DISK), ONE_ATTEMPT)?;
+    assert_results(&rt, (OF_HOSTS, WEB1), OF_A_HOST)
 }
 
 const SECONDS_OF_HTTP: &str =
@@ -110,7 +130,7 @@ const SECONDS: &[Checked] = &[
 ];
 
 /// What a check of web1 said, and its two parts.
-const OUTPUTS: &[Step] = &[
+const OUTPUTS: &[Step<'static>] = &[
     (
         "[100] PROCESS_HOST_CHECK_RESULT;web1;1;bad|x=1",
         2,
@@ -128,7 +148,7 @@ const SAID: &str = "GET hosts\nColumns: plugin_output perf_data";
 
 #[test]
 fn a_result_is_recorded_with_its_second_and_output(rt: HostRuntime) -> Result<(), Fail> {
-    assert_results(&rt, SECONDS_OF_HTTP, HTTP, SECONDS)?;
+    assert_results(&rt, (SECONDS_OF_HTTP, HTTP), SECONDS)?;
     assert_steps(&rt, SERVICES, SAID, OUTPUTS)
 }
 
@@ -141,7 +161,7 @@ GET comments\nColumns: id host_name service_description entry_type persistent en
 
 const NONE: &str = "0;0\n0;0\n0;0\n";
 
-const COMMENTS: &[Step] = &[
+const COMMENTS: &[Step<'static>] = &[
     (
         "[100] ADD_HOST_COMMENT;web1;2;anna;one",
         1,
@@ -174,7 +194,7 @@ const COMMENTS: &[Step] = &[
     ),
 ];
 
-const STICKY: &[Step] = &[
+const STICKY: &[Step<'static>] = &[
     (
         "[100] ACKNOWLEDGE_SVC_PROBLEM;web1;http;2;1;1;anna;why",
         1,
@@ -220,7 +240,7 @@ const STICKY: &[Step] = &[
     ),
 ];
 
-const NORMAL: &[Step] = &[
+const NORMAL: &[Step<'static>] = &[
     (
         "[100] ADD_SVC_COMMENT;web1;disk;0;anna;why
 [101] ADD_SVC_COMMENT;web1;http;0;anna;why
@@ -255,7 +275,7 @@ const NORMAL: &[Step] = &[
     ),
 ];
 
-const ON_A_HOST: &[Step] = &[
+const ON_A_HOST: &[Step<'static>] = &[
     ("[99] ACKNOWLEDGE_HOST_PROBLEM;web1;2;1;0;anna;why", 1, NONE),
     ("[100] PROCESS_HOST_CHECK_RESULT;web1;1;x", 2, NONE),
     (
@@ -286,7 +306,7 @@ const ON_A_HOST: &[Step] = &[
     ),
 ];
 
-const OF_ANOTHER_HOST: &[Step] = &[(
+const OF_ANOTHER_HOST: &[Step<'static>] = &[(
     "[100] PROCESS_HOST_CHECK_RESULT;web1;1;x
 [101] ACKNOWLEDGE_HOST_PROBLEM;web1;2;1;0;anna;why
 [102] REMOVE_HOST_ACKNOWLEDGEMENT;web2",
@@ -314,7 +334,7 @@ const DOWNTIMES: &str = "GET hosts\nColumns: scheduled_downtime_depth\n
 GET services\nColumns: scheduled_downtime_depth\n
 GET downtimes\nColumns: id host_name service_description start_time end_time entry_time";
 
-const BEGUN_AND_ENDED: &[Step] = &[
+const BEGUN_AND_ENDED: &[Step<'static>] = &[
     (
         "[150] SCHEDULE_HOST_DOWNTIME;web1;200;300;1;0;100;anna;work",
         1,
@@ -351,7 +371,7 @@ const BEGUN_AND_ENDED: &[Step] = &[
     ("[502] ENABLE_NOTIFICATIONS", 2, "0\n0\n0\n"),
 ];
 
-const OVER_ONE_OBJECT: &[Step] = &[
+const OVER_ONE_OBJECT: &[Step<'static>] = &[
     (
         "[150] SCHEDULE_HOST_DOWNTIME;web1;300;400;1;0;100;anna;work",
         1,
@@ -389,7 +409,7 @@ const OVER_ONE_OBJECT: &[Step] = &[
     ),
 ];
 
-const REMOVED: &[Step] = &[
+const REMOVED: &[Step<'static>] = &[
     (
         "[150] SCHEDULE_HOST_DOWNTIME;web1;200;300;1;0;100;anna;work",
         1,
@@ -436,7 +456,7 @@ const REMOVED: &[Step] = &[
 ];
 
 /// Of the downtimes that are asked for at second 100, only the last two are to come.
-const TO_COME: &[Step] = &[
+const TO_COME: &[Step<'static>] = &[
     (
         "[100] SCHEDULE_HOST_DOWNTIME;web1;200;300;0;0;100;anna;work
 [100] SCHEDULE_HOST_DOWNTIME;web1;200;300;2;0;100;anna;work
@@ -487,7 +507,7 @@ const SWITCHES: &str = "GET status\nColumns: enable_notifications\n
 GET hosts\nColumns: notifications_enabled\n
 GET services\nColumns: notifications_enabled";
 
-const SWITCHED: &[Step] = &[
+const SWITCHED: &[Step<'static>] = &[
     ("", 0, "1\n1\n0\n1\n0\n1\n"),
     (
         "[100] DISABLE_HOST_NOTIFICATIONS;web1",
@@ -516,7 +536,7 @@ const SWITCHED: &[Step] = &[
 const MOMENTS: &str = "GET status\nColumns: present_second\n\nGET hosts\nColumns: last_check";
 
 /// The largest second in a command has 12 digits.
-const MOVED_ON: &[Step] = &[
+const MOVED_ON: &[Step<'static>] = &[
     ("", 0, "0\n0\n0\n"),
     ("[0] PROCESS_HOST_CHECK_RESULT;web1;1;x", 2, "0\n0\n0\n"),
     (
@@ -549,17 +569,11 @@ const MOVED_ON: &[Step] = &[
 #[test]
 fn switches_and_the_present_second_move(rt: HostRuntime) -> Result<(), Fail> {
     assert_steps(&rt, SITE, SWITCHES, SWITCHED)?;
-    assert_steps(&rt, SITE, MOMENTS, MOVED_ON)?;
-    let mut site = opened(rt.alloc(), SITE)?;
-    for second in [1_000_000_000_000, u64::MAX] {
-        site.apply(rt.alloc(), second, Act::Unknown)?;
-        assert_eq!(rt; site.live.now(), 999_999_999_999);
-    }
-    Ok(())
+    assert_steps(&rt, SITE, MOMENTS, MOVED_ON)
 }
 
-/// Each command that no object takes: its code is out of range, its object isn't in the state, nothing
-/// has its id, or its word is unknown.
+/// Each command that no object takes: its code is out of range, its object isn't in the state,
+/// nothing has its id, or its word is unknown.
 const WITHOUT_EFFECT: &str = "[100] PROCESS_HOST_CHECK_RESULT;web1;3;x
 [101] PROCESS_HOST_CHECK_RESULT;web3;1;x
 [102] PROCESS_SERVICE_CHECK_RESULT;web1;http;4;x
@@ -579,7 +593,7 @@ const WITHOUT_EFFECT: &str = "[100] PROCESS_HOST_CHECK_RESULT;web1;3;x
 [116] RESTART";
 
 /// A host and a service that the commands name, and the state doesn't know.
-const LATE: &str = "define host {
+const LATE: &[u8] = b"define host {
  host_name web3
  }
 define service {
@@ -591,50 +605,55 @@ define service {
 const ALL: &str = "GET hosts\n\nGET services\n\nGET downtimes\n\nGET comments";
 
 /// A site whose commands know more objects than its state.
-fn behind(alloc: Global) -> Result<Site, Fail> {
-    let later = format!(in alloc; "{SITE}{LATE}")?;
-    let Site { names, .. } = opened(alloc, later.as_str())?;
-    let Site { live, .. } = opened(alloc, SITE)?;
-    Ok(Site { names, live })
+fn behind(alloc: Global) -> Result<Box<Site>, Fail> {
+    let names = joined(alloc, &[SITE, LATE])?;
+    Site::open(alloc, &names, SITE)
 }
 
 /// Results whose codes no command has.
-fn apply_codes(alloc: Global, site: &mut Site) -> Result<(), Fail> {
-    let output = Text::empty(alloc);
-    let host = HostId(0);
-    site.apply(
-        alloc,
-        117,
-        Act::ProcessHostCheckResult {
-            host,
-            code: 3,
-            output,
-        },
-    )?;
-    let output = Text::empty(alloc);
-    let service = ServiceId(0);
-    site.apply(
-        alloc,
-        118,
-        Act::ProcessServiceCheckResult {
-            service,
-            code: 4,
-            output,
-        },
-    )
+fn apply_codes(alloc: Global, site: &mut Site) -> Result<(), AllocError> {
+    let act = Act::ProcessHostCheckResult {
+        host: HostId(0),
+        code: 3,
+        output: Text::empty(alloc),
+    };
+    site.apply(117, Text::empty(alloc), act)?;
+    let act = Act::ProcessServiceCheckResult {
+        service: ServiceId(0),
+        code: 4,
+        output: Text::empty(alloc),
+    };
+    site.apply(118, Text::empty(alloc), act)
+}
+
+fn assert_without_effect<R: Abort + AllocGlobal>(rt: &R, site: &mut Site) -> Result<(), Fail> {
+    let before = site.ask(rt.alloc(), ALL)?;
+    site.assert_step(rt, ALL, (WITHOUT_EFFECT, 17, before.as_str()))?;
+    assert!(rt; site.live.now() == 116);
+    apply_codes(rt.alloc(), site)?;
+    site.assert_step(rt, ALL, ("", 0, before.as_str()))?;
+    assert!(rt; site.live.now() == 118);
+    assert!(rt; site.live.count() == 19);
+    assert!(rt; site.live.log().len() == 19);
+    Ok(())
+}
+
+/// The present second moves on to the largest one of a command.
+fn assert_last_second<R: Abort + AllocGlobal>(rt: &R, site: &mut Site) -> Result<(), Fail> {
+    for second in [1_000_000_000_000, u64::MAX] {
+        site.apply(second, Text::empty(rt.alloc()), Act::Unknown)?;
+        assert!(rt; site.live.now() == 999_999_999_999);
+    }
+    Ok(())
+}
+
+fn assert_behind<R: Abort + AllocGlobal>(rt: &R, site: &mut Site) -> Result<(), Fail> {
+    assert_without_effect(rt, site)?;
+    assert_last_second(rt, site)
 }
 
 #[test]
 fn a_command_without_effect_writes_its_line_alone(rt: HostRuntime) -> Result<(), Fail> {
-    let alloc = rt.alloc();
-    let mut site = behind(alloc)?;
-    let before = site.ask(alloc, ALL)?;
-    assert_step(&rt, &mut site, ALL, WITHOUT_EFFECT, (17, before.as_str()))?;
-    assert_eq!(rt; site.live.now(), 116);
-    apply_codes(alloc, &mut site)?;
-    assert_step(&rt, &mut site, ALL, "", (0, before.as_str()))?;
-    assert_eq!(rt; site.live.now(), 118);
-    assert_eq!(rt; site.live.count(), 19);
-    assert_eq!(rt; site.live.log().len(), 19);
-    Ok(())
+    let mut site = behind(rt.alloc())?;
+    assert_behind(&rt, &mut site)
 }

@@ -3,6 +3,7 @@
 ghost use Rattle.std.specs.Prelude.{◌≡◌, ◌<◌, IfOk};
 ghost use Rattle.lq_log.specs.declared.book.TheConstants.{TIME_LIMIT};
 
+use crate::fixture::{assert_same, push_all};
 use lq_events::{Kind, LogEntry};
 use lq_log::{Form, LogBook, make_line, read_line};
 use lq_records::Text;
@@ -32,23 +33,28 @@ fn kind_name(kind: &Kind) -> &'static str {
     }
 }
 
-/// The class, kind, state and attempt of an entry, then its other fields with a bar before each: host,
-/// service, word, contact, command, output, comment. A transition's own fields follow.
+/// The class, kind, state and attempt of an entry, then its other fields with a bar before each:
+/// host, service, word, contact, command, output, comment. A transition's own fields follow.
 fn shown(alloc: Global, entry: &LogEntry) -> Result<String, AllocError> {
     let kind = kind_name(&entry.kind);
     let mut text = format!(in alloc; "{} {kind} {} {}", entry.class, entry.state, entry.attempt)?;
-    for field in [
-        &entry.host,
-        &entry.service,
-        &entry.word,
-        &entry.contact,
-        &entry.command,
-        &entry.output,
-        &entry.comment,
-    ] {
-        text.push_str("|")?;
-        text.push_str(field.as_str())?;
-    }
+    let fields = [
+        "|",
+        entry.host.as_str(),
+        "|",
+        entry.service.as_str(),
+        "|",
+        entry.word.as_str(),
+        "|",
+        entry.contact.as_str(),
+        "|",
+        entry.command.as_str(),
+        "|",
+        entry.output.as_str(),
+        "|",
+        entry.comment.as_str(),
+    ];
+    push_all(&mut text, &fields)?;
     push_transition(alloc, &mut text, &entry.kind)?;
     Ok(text)
 }
@@ -68,12 +74,10 @@ fn shown_line(alloc: Global, line: &str) -> Result<String, AllocError> {
     }
 }
 
-/// Reads lines, and compares what each says.
-fn assert_lines<R: Abort + AllocGlobal>(rt: &R, cases: &[(&str, &str)]) -> Result<(), Fail> {
-    for (line, expected) in cases {
-        let said = shown_line(rt.alloc(), *line)?;
-        assert_eq!(rt; said.as_str(), *expected, "at {line:?}");
-    }
+/// Reads a line, and compares what it says.
+fn assert_line<R: Abort + AllocGlobal>(rt: &R, line: &str, expected: &str) -> Result<(), Fail> {
+    let said = shown_line(rt.alloc(), line)?;
+    assert_same(rt, said.as_str(), expected, &line);
     Ok(())
 }
 
@@ -211,12 +215,15 @@ const SECONDS: &[(&str, &str)] = &[
 
 #[test]
 fn lines_say_their_fields(rt: HostRuntime) -> Result<(), Fail> {
-    assert_lines(&rt, FORMS)?;
-    for line in FAULTY {
-        assert_lines(&rt, &[(*line, "0 Other 0 0|||||||")])?;
+    for cases in [FORMS, OTHERS, SECONDS] {
+        for (line, expected) in cases {
+            assert_line(&rt, *line, *expected)?;
+        }
     }
-    assert_lines(&rt, OTHERS)?;
-    assert_lines(&rt, SECONDS)
+    for line in FAULTY {
+        assert_line(&rt, *line, "0 Other 0 0|||||||")?;
+    }
+    Ok(())
 }
 
 /// A line, the second of the one before it, and its own.
@@ -228,30 +235,42 @@ const MOMENTS: &[(&str, u64, u64)] = &[
     ("[0] é", 0, 0),
 ];
 
+/// Whether a line after a second gives an entry with a second, whose message is the line.
+fn is_at(alloc: Global, line: &str, before: u64, time: u64) -> Result<bool, AllocError> {
+    match read_line(alloc, line, before)? {
+        Some(entry) => Ok(entry.time == time && entry.message.as_str() == line),
+        None => Ok(false),
+    }
+}
+
 #[test]
 fn a_time_is_no_earlier_than_the_one_before(rt: HostRuntime) -> Result<(), Fail> {
     for (line, before, time) in MOMENTS {
-        let entry = read_line(rt.alloc(), *line, *before)?.ok_or("no entry")?;
-        assert_eq!(rt; entry.time, *time, "at {line:?}");
-        assert_eq!(rt; entry.message.as_str(), *line);
+        assert!(rt;
+            is_at(rt.alloc(), *line, *before, *time)?,
+            "at {line:?} after {before}"
+        );
     }
     Ok(())
 }
 
 // ---- the lines that are written
 
-/// Writes the line of a form at the second 1,700,000,000, and compares it and what it says.
+/// Whether the line of a form at the second 1,700,000,000 has a text, and says its fields.
+fn is_written(alloc: Global, form: &Form, (text, said): (&str, &str)) -> Result<bool, AllocError> {
+    let entry = make_line(alloc, 1_700_000_000, form)?;
+    let shown = shown(alloc, &entry)?;
+    let rest = entry.message.as_str().strip_prefix("[1700000000] ");
+    Ok(entry.time == 1_700_000_000 && rest == Some(text) && shown.as_str() == said)
+}
+
 fn assert_written<R: Abort + AllocGlobal>(
     rt: &R,
-    form: &Form,
-    (text, said): (&str, &str),
+    form: Form,
+    written: (&str, &str),
 ) -> Result<(), Fail> {
-    let entry = make_line(rt.alloc(), 1_700_000_000, form)?;
-    let line = format!(in rt.alloc(); "[1700000000] {text}")?;
-    assert_eq!(rt; entry.message.as_str(), line.as_str());
-    assert_eq!(rt; entry.time, 1_700_000_000);
-    let shown = shown(rt.alloc(), &entry)?;
-    assert_eq!(rt; shown.as_str(), said);
+    let is_same = is_written(rt.alloc(), &form, written)?;
+    assert!(rt; is_same, "{}", written.0);
     Ok(())
 }
 
@@ -317,15 +336,18 @@ const DOWNTIMES: &[(&str, &str, (&str, &str))] = &[
         "STARTED",
         (
             "HOST DOWNTIME ALERT: web1;STARTED; Host has entered a period of scheduled downtime",
-            "1 HostDowntimeAlert 0 0|web1||STARTED|||| Host has entered a period of scheduled downtime",
+            "1 HostDowntimeAlert 0 0|web1||STARTED|||| \
+             Host has entered a period of scheduled downtime",
         ),
     ),
     (
         "",
         "STOPPED",
         (
-            "HOST DOWNTIME ALERT: web1;STOPPED; Host has exited from a period of scheduled downtime",
-            "1 HostDowntimeAlert 0 0|web1||STOPPED|||| Host has exited from a period of scheduled downtime",
+            "HOST DOWNTIME ALERT: web1;STOPPED; \
+             Host has exited from a period of scheduled downtime",
+            "1 HostDowntimeAlert 0 0|web1||STOPPED|||| \
+             Host has exited from a period of scheduled downtime",
         ),
     ),
     (
@@ -333,31 +355,38 @@ const DOWNTIMES: &[(&str, &str, (&str, &str))] = &[
         "CANCELLED",
         (
             "HOST DOWNTIME ALERT: web1;CANCELLED; Scheduled downtime for host has been cancelled.",
-            "1 HostDowntimeAlert 0 0|web1||CANCELLED|||| Scheduled downtime for host has been cancelled.",
+            "1 HostDowntimeAlert 0 0|web1||CANCELLED|||| \
+             Scheduled downtime for host has been cancelled.",
         ),
     ),
     (
         "disk",
         "STARTED",
         (
-            "SERVICE DOWNTIME ALERT: web1;disk;STARTED; Service has entered a period of scheduled downtime",
-            "1 ServiceDowntimeAlert 0 0|web1|disk|STARTED|||| Service has entered a period of scheduled downtime",
+            "SERVICE DOWNTIME ALERT: web1;disk;STARTED; \
+             Service has entered a period of scheduled downtime",
+            "1 ServiceDowntimeAlert 0 0|web1|disk|STARTED|||| \
+             Service has entered a period of scheduled downtime",
         ),
     ),
     (
         "disk",
         "STOPPED",
         (
-            "SERVICE DOWNTIME ALERT: web1;disk;STOPPED; Service has exited from a period of scheduled downtime",
-            "1 ServiceDowntimeAlert 0 0|web1|disk|STOPPED|||| Service has exited from a period of scheduled downtime",
+            "SERVICE DOWNTIME ALERT: web1;disk;STOPPED; \
+             Service has exited from a period of scheduled downtime",
+            "1 ServiceDowntimeAlert 0 0|web1|disk|STOPPED|||| \
+             Service has exited from a period of scheduled downtime",
         ),
     ),
     (
         "disk",
         "CANCELLED",
         (
-            "SERVICE DOWNTIME ALERT: web1;disk;CANCELLED; Scheduled downtime for service has been cancelled.",
-            "1 ServiceDowntimeAlert 0 0|web1|disk|CANCELLED|||| Scheduled downtime for service has been cancelled.",
+            "SERVICE DOWNTIME ALERT: web1;disk;CANCELLED; \
+             Scheduled downtime for service has been cancelled.",
+            "1 ServiceDowntimeAlert 0 0|web1|disk|CANCELLED|||| \
+             Scheduled downtime for service has been cancelled.",
         ),
     ),
 ];
@@ -370,14 +399,12 @@ const COMMAND: (&str, &str) = (
 #[test]
 fn commands_alerts_and_downtimes_are_written(rt: HostRuntime) -> Result<(), Fail> {
     let text = Text::new(rt.alloc(), "DEL_HOST_DOWNTIME;1")?;
-    assert_written(&rt, &Form::External { text }, COMMAND)?;
+    assert_written(&rt, Form::External { text }, COMMAND)?;
     for (service, state, written) in ALERTS {
-        let form = alert(rt.alloc(), *service, *state)?;
-        assert_written(&rt, &form, *written)?;
+        assert_written(&rt, alert(rt.alloc(), *service, *state)?, *written)?;
     }
     for (service, word, written) in DOWNTIMES {
-        let form = downtime(rt.alloc(), *service, *word)?;
-        assert_written(&rt, &form, *written)?;
+        assert_written(&rt, downtime(rt.alloc(), *service, *word)?, *written)?;
     }
     Ok(())
 }
@@ -398,15 +425,15 @@ fn a_book_takes_entries(rt: HostRuntime) -> Result<(), Fail> {
     let mut book = LogBook::empty(alloc);
     assert!(rt; book.is_empty());
     book.reserve(2)?;
-    assert_eq!(rt; book.len(), 0);
+    assert!(rt; book.len() == 0);
     book.add(entry_at(alloc, 5)?)?;
     book.add(entry_at(alloc, 5)?)?;
-    assert_eq!(rt; book.len(), 2);
+    assert!(rt; book.len() == 2);
     book.add(entry_at(alloc, 999_999_999_999)?)?;
-    assert_eq!(rt; book.len(), 3);
+    assert!(rt; book.len() == 3);
     assert!(rt; book.reserve((1 << 40) + 1).is_err());
     assert!(rt; book.reserve(usize::MAX).is_err());
-    assert_eq!(rt; book.len(), 3);
+    assert!(rt; book.len() == 3);
     assert!(rt; !book.is_empty());
     Ok(())
 }

@@ -1,7 +1,6 @@
 //! What object files say, asked by queries.
 
-use crate::fixture::site_of;
-use std::alloc::{AllocError, Global};
+use crate::fixture::{asked, assert_same, joined};
 use std::process::Abort;
 use std::test::Fail;
 
@@ -12,9 +11,8 @@ fn assert_asked<R: Abort + AllocGlobal>(
     queries: &str,
     expected: &str,
 ) -> Result<(), Fail> {
-    let site = site_of(rt.alloc(), objects)?;
-    let replies = site.ask(rt.alloc(), queries)?;
-    assert_eq!(rt; replies.as_str(), expected, "about {objects:?}");
+    let replies = asked(rt.alloc(), objects, "", queries)?;
+    assert_same(rt, replies.as_str(), expected, &objects);
     Ok(())
 }
 
@@ -28,34 +26,35 @@ fn assert_all_asked<R: Abort + AllocGlobal>(rt: &R, cases: &[Asked<'_>]) -> Resu
     Ok(())
 }
 
-/// Parts of a file as one.
-fn joined(alloc: Global, parts: &[&[u8]]) -> Result<Vec<u8>, AllocError> {
-    let mut file = Vec::new(alloc);
-    for part in parts {
-        file.extend_from_slice(*part)?;
-    }
-    Ok(file)
-}
-
 /// The two parts of a file between which a line stands, and what is asked then.
 type Around<'a> = (&'a [u8], &'a [u8], &'a str);
 
-/// Puts lines into a file, and compares what is answered then.
-fn assert_lines<R: Abort + AllocGlobal>(
+/// Puts a line into a file, and compares what is answered then.
+fn assert_line<R: Abort + AllocGlobal>(
     rt: &R,
     (front, back, queries): Around<'_>,
+    (line, expected): (&[u8], &str),
+) -> Result<(), Fail> {
+    let objects = joined(rt.alloc(), &[front, line, back])?;
+    assert_asked(rt, &objects, queries, expected)
+}
+
+/// Puts lines into a file, one after another.
+fn assert_lines<R: Abort + AllocGlobal>(
+    rt: &R,
+    around: Around<'_>,
     lines: &[(&[u8], &str)],
 ) -> Result<(), Fail> {
-    for (line, expected) in lines {
-        let objects = joined(rt.alloc(), &[front, *line, back])?;
-        assert_asked(rt, &objects, queries, *expected)?;
+    for line in lines {
+        assert_line(rt, around, *line)?;
     }
     Ok(())
 }
 
 // ---- each kind with all its directives, and without any
 
-/// The directives that hosts and services share, each with a value of its own, and what follows them.
+/// The directives that hosts and services share, each with a value of its own, and what follows
+/// them.
 const SHARED: &[u8] = b"display_name\tShown name
 check_command\tcheck_it!5!a;b
 check_period\tnever
@@ -181,7 +180,8 @@ define host {\nhost_name a\nalias\ndisplay_name\n}\n",
         "b;;3;a;b\na;;;;\n",
     ),
     (
-        b"define host {\n_B one\nhost_name a\n_A  two \n_C\t\tthree\n_B\n_b x\n\t_A four five\n_ six\n}\n",
+        b"define host {\n_B one\nhost_name a\n_A  two \n_C\t\tthree\n_B
+_b x\n\t_A four five\n_ six\n}\n",
         "GET hosts\nColumns: custom_variable_names custom_variable_values",
         "B,A,C,b,;,four five,three,x,six\n",
     ),
@@ -198,7 +198,8 @@ define host {\nhost_name a\nalias\ndisplay_name\n}\n",
     (
         b"define serviceescalation {\nhost_name x\nuse t\nmax_check_attempts 0\nmembers x\n}
 define Host {\nhost_name y\n}
-define host {\nhost_name a\nhost_names b\nhost_nam c\nHOST_NAME d\nevent_handler e\nalias\tA\naliases B
+define host {\nhost_name a\nhost_names b\nhost_nam c\nHOST_NAME d
+event_handler e\nalias\tA\naliases B
 notifications 7\nmax_check_attempt x\nx\n{\ndefined\ndefine x\n}
 define hostdependency {\n#}\n_A b\n}\n",
         "GET hosts\nColumns: name alias max_check_attempts custom_variable_names\n
@@ -343,20 +344,18 @@ const REPLACED_TEXTS: &str = "GET hosts\nColumns: name alias custom_variable_val
 fn assert_replaced<R: Abort + AllocGlobal>(rt: &R, value: &[u8], text: &str) -> Result<(), Fail> {
     let host = b"define host {\nhost_name a".as_slice();
     let group = b"\n}\ndefine hostgroup {\nhostgroup_name g\nmembers a".as_slice();
-    let objects = joined(
-        rt.alloc(),
-        &[
-            host,
-            value,
-            b"\nalias ",
-            value,
-            b"\n_V ",
-            value,
-            group,
-            value,
-            b"\n}\n",
-        ],
-    )?;
+    let parts: &[&[u8]] = &[
+        host,
+        value,
+        b"\nalias ",
+        value,
+        b"\n_V ",
+        value,
+        group,
+        value,
+        b"\n}\n",
+    ];
+    let objects = joined(rt.alloc(), parts)?;
     let expected = format!(in rt.alloc(); "a{text};{text};{text};g\n")?;
     assert_asked(rt, &objects, REPLACED_TEXTS, expected.as_str())
 }

@@ -15,17 +15,17 @@ fn a_source_in_memory_fails_at_its_numbers(rt: HostRuntime) -> Result<(), Fail> 
     let bytes = Vec::from_slice(alloc, b"abcde")?;
     let mut source = MemSource::new(alloc, bytes, vec![in alloc; 1, 4]?)?;
     let mut buf = [0u8; 3];
-    assert_eq!(rt; source.read(&mut buf), Ok(3));
-    assert_eq!(rt; buf, *b"abc");
-    assert_eq!(rt; source.read(&mut buf), Err(Failed));
-    assert_eq!(rt; source.left(), b"de".as_slice());
-    assert_eq!(rt; source.faults(), 1);
-    assert_eq!(rt; source.read(&mut buf), Ok(2));
-    assert_eq!(rt; buf, *b"dec");
-    assert_eq!(rt; source.read(&mut buf), Ok(0));
-    assert_eq!(rt; source.faults(), 1);
-    assert_eq!(rt; source.read(&mut buf), Err(Failed));
-    assert_eq!(rt; source.faults(), 2);
+    assert!(rt; source.read(&mut buf) == Ok(3));
+    assert!(rt; buf == *b"abc");
+    assert!(rt; source.read(&mut buf) == Err(Failed));
+    assert!(rt; source.left() == b"de".as_slice());
+    assert!(rt; source.faults() == 1);
+    assert!(rt; source.read(&mut buf) == Ok(2));
+    assert!(rt; buf == *b"dec");
+    assert!(rt; source.read(&mut buf) == Ok(0));
+    assert!(rt; source.faults() == 1);
+    assert!(rt; source.read(&mut buf) == Err(Failed));
+    assert!(rt; source.faults() == 2);
     Ok(())
 }
 
@@ -34,24 +34,24 @@ fn a_steady_source_gives_all_its_bytes(rt: HostRuntime) -> Result<(), Fail> {
     let alloc = rt.alloc();
     let mut source = SteadySource::new(alloc, Vec::from_slice(alloc, b"abc")?)?;
     let mut buf = [0u8; 2];
-    assert_eq!(rt; source.read(&mut buf), Ok(2));
-    assert_eq!(rt; source.left(), b"c".as_slice());
-    assert_eq!(rt; source.read(&mut buf), Ok(1));
-    assert_eq!(rt; source.read(&mut buf), Ok(0));
-    assert_eq!(rt; buf, *b"cb");
-    assert_eq!(rt; source.faults(), 0);
+    assert!(rt; source.read(&mut buf) == Ok(2));
+    assert!(rt; source.left() == b"c".as_slice());
+    assert!(rt; source.read(&mut buf) == Ok(1));
+    assert!(rt; source.read(&mut buf) == Ok(0));
+    assert!(rt; buf == *b"cb");
+    assert!(rt; source.faults() == 0);
     Ok(())
 }
 
 #[test]
 fn a_sink_in_memory_fails_at_its_numbers(rt: HostRuntime) -> Result<(), Fail> {
     let mut sink = MemSink::new(rt.alloc(), vec![in rt.alloc(); 1]?)?;
-    assert_eq!(rt; sink.write(b"ab"), Ok(2));
-    assert_eq!(rt; sink.write(b"cd"), Err(Failed));
-    assert_eq!(rt; sink.write(b""), Ok(0));
-    assert_eq!(rt; sink.write(b"ef"), Ok(2));
-    assert_eq!(rt; sink.held(), b"abef".as_slice());
-    assert_eq!(rt; sink.faults(), 1);
+    assert!(rt; sink.write(b"ab") == Ok(2));
+    assert!(rt; sink.write(b"cd") == Err(Failed));
+    assert!(rt; sink.write(b"") == Ok(0));
+    assert!(rt; sink.write(b"ef") == Ok(2));
+    assert!(rt; sink.held() == b"abef".as_slice());
+    assert!(rt; sink.faults() == 1);
     Ok(())
 }
 
@@ -81,7 +81,7 @@ fn files_in_memory_answer_by_path_number_and_length(rt: HostRuntime) -> Result<(
     for (path, most, expected, faults) in cases {
         let loaded = files.load(alloc, path, most);
         assert!(rt; is_answer(&loaded, expected), "at {path} {most}");
-        assert_eq!(rt; files.faults(), faults);
+        assert!(rt; files.faults() == faults);
     }
     Ok(())
 }
@@ -121,12 +121,12 @@ fn short_writes_are_repeated_until_one_fails(rt: HostRuntime) -> Result<(), Fail
     let mut sink = Narrow {
         inner: MemSink::new(alloc, vec![in alloc; 5]?)?,
     };
-    assert_eq!(rt; write_all(&mut sink, b"abcde"), Ok(()));
-    assert_eq!(rt; write_all(&mut sink, b""), Ok(()));
-    assert_eq!(rt; sink.inner.held(), b"abcde".as_slice());
-    assert_eq!(rt; write_all(&mut sink, b"fghijk"), Err(Failed));
-    assert_eq!(rt; sink.inner.held(), b"abcdefghi".as_slice());
-    assert_eq!(rt; sink.inner.faults(), 1);
+    assert!(rt; write_all(&mut sink, b"abcde") == Ok(()));
+    assert!(rt; write_all(&mut sink, b"") == Ok(()));
+    assert!(rt; sink.inner.held() == b"abcde".as_slice());
+    assert!(rt; write_all(&mut sink, b"fghijk") == Err(Failed));
+    assert!(rt; sink.inner.held() == b"abcdefghi".as_slice());
+    assert!(rt; sink.inner.faults() == 1);
     Ok(())
 }
 
@@ -154,16 +154,16 @@ impl Write for Stuck {
 fn a_reader_is_a_source(rt: HostRuntime) {
     let mut source = StdSource::new(b"abc".as_slice());
     let mut buf = [0u8; 2];
-    assert_eq!(rt; source.read(&mut buf), Ok(2));
-    assert_eq!(rt; buf, *b"ab");
-    assert_eq!(rt; source.read(&mut buf), Ok(1));
-    assert_eq!(rt; buf, *b"cb");
-    assert_eq!(rt; source.read(&mut buf), Ok(0));
-    assert_eq!(rt; source.faults(), 0);
+    assert!(rt; source.read(&mut buf) == Ok(2));
+    assert!(rt; buf == *b"ab");
+    assert!(rt; source.read(&mut buf) == Ok(1));
+    assert!(rt; buf == *b"cb");
+    assert!(rt; source.read(&mut buf) == Ok(0));
+    assert!(rt; source.faults() == 0);
 
     let mut stuck = StdSource::new(Stuck);
-    assert_eq!(rt; stuck.read(&mut buf), Err(Failed));
-    assert_eq!(rt; stuck.faults(), 1);
+    assert!(rt; stuck.read(&mut buf) == Err(Failed));
+    assert!(rt; stuck.faults() == 1);
 }
 
 #[test]
@@ -171,22 +171,22 @@ fn a_writer_is_a_sink(rt: HostRuntime) -> Result<(), Fail> {
     let mut bytes = Vec::new(rt.alloc());
     {
         let mut sink = StdSink::new(&mut bytes);
-        assert_eq!(rt; write_all(&mut sink, b"abc"), Ok(()));
-        assert_eq!(rt; sink.write(b"d"), Ok(1));
-        assert_eq!(rt; sink.faults(), 0);
+        assert!(rt; write_all(&mut sink, b"abc") == Ok(()));
+        assert!(rt; sink.write(b"d") == Ok(1));
+        assert!(rt; sink.faults() == 0);
     }
-    assert_eq!(rt; bytes.as_slice(), b"abcd".as_slice());
+    assert!(rt; bytes.as_slice() == b"abcd".as_slice());
 
     let mut stuck = StdSink::new(Stuck);
-    assert_eq!(rt; stuck.write(b"a"), Err(Failed));
-    assert_eq!(rt; stuck.write(b""), Ok(0));
-    assert_eq!(rt; stuck.faults(), 1);
+    assert!(rt; stuck.write(b"a") == Err(Failed));
+    assert!(rt; stuck.write(b"") == Ok(0));
+    assert!(rt; stuck.faults() == 1);
 
     for stream in [
         StandardStream::Output(rt.stdout()),
         StandardStream::Errors(rt.stderr()),
     ] {
-        assert_eq!(rt; write_all(&mut StdSink::new(stream), b"a line\n"), Ok(()));
+        assert!(rt; write_all(&mut StdSink::new(stream), b"a line\n") == Ok(()));
     }
     Ok(())
 }
@@ -210,7 +210,7 @@ fn files_of_the_system_are_loaded(rt: HostRuntime) -> Result<(), Fail> {
     for (place, most, expected, faults) in cases {
         let loaded = files.load(alloc, place, most);
         assert!(rt; is_answer(&loaded, expected), "at {place:?} {most}");
-        assert_eq!(rt; files.faults(), faults);
+        assert!(rt; files.faults() == faults);
     }
     fs::remove_file(&rt, path.as_str())?;
     Ok(())

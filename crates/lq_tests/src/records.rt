@@ -8,15 +8,13 @@ use std::test::Fail;
 
 const TEXTS: &[&str] = &["", "a", "web1", "Größe 5", "a\0b", " \t"];
 
-fn assert_text<R: Abort + AllocGlobal>(rt: &R, text: &str) -> Result<(), Fail> {
-    let copy = Text::new(rt.alloc(), text)?;
-    let taken = Text::from_string(String::from_str(rt.alloc(), text)?);
-    assert!(rt; copy == taken, "at {text:?}");
-    assert_eq!(rt; copy.as_str(), text);
-    assert_eq!(rt; taken.as_str(), text);
-    assert_eq!(rt; copy.into_string().as_str(), text);
-    assert_eq!(rt; taken.into_string().as_str(), text);
-    Ok(())
+/// Whether a copy of a text and one that takes its string are the text, and give it back.
+fn is_kept(alloc: Global, text: &str) -> Result<bool, AllocError> {
+    let copy = Text::new(alloc, text)?;
+    let taken = Text::from_string(String::from_str(alloc, text)?);
+    let is_same = copy == taken && copy.as_str() == text && taken.as_str() == text;
+    let (copy, taken) = (copy.into_string(), taken.into_string());
+    Ok(is_same && copy.as_str() == text && taken.as_str() == text)
 }
 
 const EQUAL: &[(&str, &str, bool)] = &[
@@ -33,14 +31,11 @@ fn are_equal<T: PartialEq>(a: &T, b: &T) -> bool {
     a == b
 }
 
-fn assert_equal<R: Abort + AllocGlobal>(
-    rt: &R,
-    (a, b, expected): (&str, &str, bool),
-) -> Result<(), Fail> {
-    let (first, second) = (Text::new(rt.alloc(), a)?, Text::new(rt.alloc(), b)?);
-    assert_eq!(rt; are_equal(&first, &second), expected, "at {a:?} {b:?}");
-    assert_eq!(rt; are_equal(&second, &first), expected, "at {b:?} {a:?}");
-    Ok(())
+/// Whether two texts are equal or not as expected, whichever comes first.
+fn is_answer(alloc: Global, (a, b, expected): (&str, &str, bool)) -> Result<bool, AllocError> {
+    let first = Text::new(alloc, a)?;
+    let second = Text::new(alloc, b)?;
+    Ok(are_equal(&first, &second) == expected && are_equal(&second, &first) == expected)
 }
 
 /// Bytes, and the text that they become.
@@ -63,62 +58,69 @@ const CLEANED: &[(&[u8], &str)] = &[
     (b"\xc3\xc3\xa4", "\u{FFFD}ä"),
 ];
 
-/// A long text is clean up to its last byte.
-fn assert_long<R: Abort + AllocGlobal>(rt: &R) -> Result<(), Fail> {
-    let mut expected = String::new(rt.alloc());
-    for _ in 0..9000 {
-        expected.push_str("Größe 5 € 𝄞;")?;
-    }
-    let mut bytes = Vec::from_slice(rt.alloc(), expected.as_bytes())?;
-    assert!(rt; clean_text(rt.alloc(), &bytes)?.as_str() == expected.as_str());
+/// Whether bytes become a text.
+fn becomes(alloc: Global, bytes: &[u8], expected: &str) -> Result<bool, AllocError> {
+    Ok(clean_text(alloc, bytes)?.as_str() == expected)
+}
+
+/// Whether a long text becomes itself, and is followed by U+FFFD where another byte comes after it.
+fn is_long_cleaned(alloc: Global) -> Result<bool, AllocError> {
+    let mut expected = "Größe 5 € 𝄞;".repeat(alloc, 9000)?;
+    let mut bytes = Vec::from_slice(alloc, expected.as_bytes())?;
+    let is_whole = becomes(alloc, &bytes, expected.as_str())?;
     bytes.push(0xC3)?;
     expected.push('\u{FFFD}')?;
-    assert!(rt; clean_text(rt.alloc(), &bytes)?.as_str() == expected.as_str());
-    Ok(())
+    Ok(is_whole && becomes(alloc, &bytes, expected.as_str())?)
 }
 
 #[test]
 fn texts_keep_their_strings(rt: HostRuntime) -> Result<(), Fail> {
     for text in TEXTS {
-        assert_text(&rt, *text)?;
+        assert!(rt; is_kept(rt.alloc(), *text)?, "at {text:?}");
     }
     for case in EQUAL {
-        assert_equal(&rt, *case)?;
+        assert!(rt; is_answer(rt.alloc(), *case)?, "at {case:?}");
     }
     for (bytes, expected) in CLEANED {
-        let text = clean_text(rt.alloc(), *bytes)?;
-        assert!(rt; text.as_str() == *expected, "at {bytes:?}");
+        assert!(rt; becomes(rt.alloc(), *bytes, *expected)?, "at {bytes:?}");
     }
-    assert_long(&rt)
+    assert!(rt; is_long_cleaned(rt.alloc())?);
+    Ok(())
+}
+
+fn assert_items(rt: &impl Abort, items: &Items<u32>, expected: &[u32]) {
+    assert!(rt; items.as_slice() == expected);
+    assert!(rt; items.len() == expected.len());
+    assert!(rt; items.is_empty() == expected.is_empty());
 }
 
 /// Numbers in the order in which they were pushed.
-fn assert_numbers<R: Abort + AllocGlobal>(rt: &R) -> Result<(), Fail> {
-    let mut numbers = Items::new(rt.alloc());
-    assert!(rt; numbers.is_empty() && numbers.len() == 0);
+fn assert_numbers<R: Abort + AllocGlobal>(rt: &R) -> Result<(), AllocError> {
+    let mut items = Items::new(rt.alloc());
+    assert_items(rt, &items, &[]);
     for number in [7u32, 3, 3] {
-        numbers.push(number)?;
-        assert!(rt; !numbers.is_empty());
+        items.push(number)?;
+        assert!(rt; !items.is_empty());
     }
-    assert_eq!(rt; numbers.len(), 3);
-    let vector = numbers.into_vec();
-    assert_eq!(rt; vector.as_slice(), [7, 3, 3].as_slice());
-    let mut numbers = Items::from_vec(vector);
-    numbers.push(9)?;
-    assert_eq!(rt; numbers.as_slice(), [7, 3, 3, 9].as_slice());
+    assert_items(rt, &items, &[7, 3, 3]);
+    let vector = items.into_vec();
+    assert!(rt; vector.as_slice() == [7, 3, 3].as_slice());
+    let mut items = Items::from_vec(vector);
+    items.push(9)?;
+    assert_items(rt, &items, &[7, 3, 3, 9]);
     Ok(())
 }
 
 #[test]
 fn items_keep_the_order_in_which_they_came(rt: HostRuntime) -> Result<(), Fail> {
     assert_numbers(&rt)?;
-    assert!(rt; Items::from_vec(Vec::<u32>::new(rt.alloc())).is_empty());
+    assert_items(&rt, &Items::from_vec(Vec::new(rt.alloc())), &[]);
     let mut names = Items::new(rt.alloc());
     names.push(Text::new(rt.alloc(), "web1")?)?;
     names.push(Text::new(rt.alloc(), "db")?)?;
-    assert_eq!(rt; names.len(), 2);
-    assert_eq!(rt; names.as_slice()[0].as_str(), "web1");
-    assert_eq!(rt; names.as_slice()[1].as_str(), "db");
+    assert!(rt; names.len() == 2);
+    assert!(rt; names.as_slice()[0].as_str() == "web1");
+    assert!(rt; names.as_slice()[1].as_str() == "db");
     Ok(())
 }
 
@@ -143,8 +145,8 @@ const OBJECTS: &[(Object, Object, bool, bool)] = &[
 #[test]
 fn objects_of_one_number_differ_by_kind(rt: HostRuntime) {
     for (a, b, is_same, is_same_kind) in OBJECTS {
-        assert_eq!(rt; a.is_same(*b), *is_same);
-        assert_eq!(rt; a.kind().is_same(b.kind()), *is_same_kind);
+        assert!(rt; a.is_same(*b) == *is_same);
+        assert!(rt; a.kind().is_same(b.kind()) == *is_same_kind);
     }
     assert!(rt; HOST.kind().is_same(ObjectKind::Host));
     assert!(rt; SERVICE.kind().is_same(ObjectKind::Service));
@@ -158,24 +160,38 @@ fn named(alloc: Global, first: &str, second: &str) -> Result<Name, AllocError> {
     Ok(Name::new(Text::new(alloc, first)?, Text::new(alloc, second)?))
 }
 
-fn push_new(index: &mut NameIndex, name: Name) -> Result<(), AllocError> {
-    if !index.contains(&name) {
-        index.push(name)?;
+fn push_new(
+    index: &mut NameIndex,
+    alloc: Global,
+    (first, second): (&str, &str),
+) -> Result<(), AllocError> {
+    let name = named(alloc, first, second)?;
+    if index.contains(&name) {
+        return Ok(());
     }
+    index.push(name)
+}
+
+fn names(alloc: Global) -> Result<NameIndex, AllocError> {
+    let mut index = NameIndex::new(alloc);
+    for name in [("a", "b"), ("b", "a"), ("a", ""), ("a", "b")] {
+        push_new(&mut index, alloc, name)?;
+    }
+    Ok(index)
+}
+
+fn assert_found<R: Abort + AllocGlobal>(rt: &R, index: &NameIndex) -> Result<(), Fail> {
+    assert!(rt; index.len() == 3);
+    assert!(rt; index.find(&named(rt.alloc(), "b", "a")?) == Some(1));
+    let single = Name::single(rt.alloc(), Text::new(rt.alloc(), "a")?);
+    assert!(rt; index.find(&single) == Some(2));
+    drop(single);
+    assert!(rt; index.find(&named(rt.alloc(), "b", "")?).is_none());
     Ok(())
 }
 
 #[test]
 fn a_name_is_found_by_both_parts(rt: HostRuntime) -> Result<(), Fail> {
-    let alloc = rt.alloc();
-    let mut index = NameIndex::new(alloc);
-    for (first, second) in [("a", "b"), ("b", "a"), ("a", ""), ("a", "b")] {
-        push_new(&mut index, named(alloc, first, second)?)?;
-    }
-    assert_eq!(rt; index.len(), 3);
-    assert_eq!(rt; index.find(&named(alloc, "b", "a")?), Some(1));
-    let single = Name::single(alloc, Text::new(alloc, "a")?);
-    assert_eq!(rt; index.find(&single), Some(2));
-    assert_eq!(rt; index.find(&named(alloc, "b", "")?), None);
-    Ok(())
+    let index = names(rt.alloc())?;
+    assert_found(&rt, &index)
 }

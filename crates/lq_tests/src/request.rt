@@ -1,7 +1,8 @@
 //! Messages cut out of a connection's bytes, and what a query asks or why it is refused.
 
-use crate::fixture::base_of;
-use lq_records::Base;
+use crate::fixture::assert_same;
+use lq_objects::read_objects;
+use lq_records::Rules;
 use lq_request::{Cut, Cutting, ReadErr, Request, read_request, reply_style};
 use lq_schema::{Col, column_name};
 use std::alloc::{AllocError, Global};
@@ -86,17 +87,21 @@ const COMMANDS: &[Whole<'static>] = &[
     ),
 ];
 
+/// A cut that was fed with an input.
+fn cut_of(rt: &impl Abort, alloc: Global, input: &[u8]) -> Result<Cut, AllocError> {
+    let mut cut = Cut::new(alloc)?;
+    feed(rt, &mut cut, input);
+    Ok(cut)
+}
+
 fn assert_whole<R: Abort + AllocGlobal>(rt: &R, inputs: &[Whole<'_>]) -> Result<(), Fail> {
     for (input, first, second) in inputs {
-        let mut cut = Cut::new(rt.alloc())?;
-        feed(rt, &mut cut, *input);
+        let mut cut = cut_of(rt, rt.alloc(), *input)?;
+        let is_first = is_piece(cut.next_message(true), *first);
+        let is_second = is_piece(cut.next_message(true), *second);
         assert!(rt;
-            is_piece(cut.next_message(true), *first),
-            "first of {input:?}"
-        );
-        assert!(rt;
-            is_piece(cut.next_message(true), *second),
-            "second of {input:?}"
+            is_first && is_second,
+            "{is_first} {is_second} of {input:?}"
         );
     }
     Ok(())
@@ -108,8 +113,8 @@ fn queries_and_commands_are_cut(rt: HostRuntime) -> Result<(), Fail> {
     assert_whole(&rt, COMMANDS)
 }
 
-/// Shows each message of an input in a text, where the input comes in pieces of a size. A piece ends
-/// at most three messages.
+/// Shows each message of an input in a text, where the input comes in pieces of a size. A piece
+/// ends at most three messages.
 fn messages_in(
     rt: &impl Abort,
     alloc: Global,
@@ -152,24 +157,25 @@ fn messages_are_the_same_however_they_come(rt: HostRuntime) -> Result<(), Fail> 
     Ok(())
 }
 
+/// Compares the next piece of an input that goes on or ends, and how many bytes may be fed then.
+fn assert_next(rt: &impl Abort, cut: &mut Cut, is_end: bool, expected: Cutting<'_>, room: usize) {
+    assert!(rt; is_piece(cut.next_message(is_end), expected), "room {room}");
+    assert!(rt; cut.room() == room);
+}
+
 #[test]
 fn a_message_comes_byte_by_byte(rt: HostRuntime) -> Result<(), Fail> {
     let mut cut = Cut::new(rt.alloc())?;
-    assert_eq!(rt; cut.room(), 65_537);
+    assert!(rt; cut.room() == 65_537);
     for byte in b"\na\r\n\r" {
         feed(&rt, &mut cut, &[*byte]);
-        assert!(rt;
-            is_piece(cut.next_message(false), Cutting::More),
-            "at {byte}"
-        );
+        assert!(rt; is_piece(cut.next_message(false), Cutting::More));
     }
-    assert_eq!(rt; cut.room(), 65_532);
+    assert!(rt; cut.room() == 65_532);
     feed(&rt, &mut cut, b"\nb");
-    assert!(rt; is_piece(cut.next_message(false), Cutting::Query(b"a\r\n")));
-    assert_eq!(rt; cut.room(), 65_536);
-    assert!(rt; is_piece(cut.next_message(false), Cutting::More));
-    assert!(rt; is_piece(cut.next_message(true), Cutting::Query(b"b")));
-    assert_eq!(rt; cut.room(), 65_537);
+    assert_next(&rt, &mut cut, false, Cutting::Query(b"a\r\n"), 65_536);
+    assert_next(&rt, &mut cut, false, Cutting::More, 65_536);
+    assert_next(&rt, &mut cut, true, Cutting::Query(b"b"), 65_537);
     Ok(())
 }
 
@@ -242,19 +248,20 @@ const LIMITS: &[Limit<'static>] = &[
     ),
 ];
 
+/// A cut that was fed with a padded input.
+fn cut_of_padded(rt: &impl Abort, alloc: Global, input: Padded<'_>) -> Result<Cut, AllocError> {
+    let input = padded(alloc, input)?;
+    cut_of(rt, alloc, &input)
+}
+
 fn assert_limit<R: Abort + AllocGlobal>(
     rt: &R,
     (input, piece, bytes, room): Limit<'_>,
 ) -> Result<(), Fail> {
-    let input = padded(rt.alloc(), input)?;
+    let mut cut = cut_of_padded(rt, rt.alloc(), input)?;
     let bytes = padded(rt.alloc(), bytes)?;
-    let mut cut = Cut::new(rt.alloc())?;
-    feed(rt, &mut cut, &input);
-    assert!(rt;
-        is_piece(cut.next_message(true), with_bytes(piece, &bytes)),
-        "room {room}"
-    );
-    assert_eq!(rt; cut.room(), room);
+    let is_same = is_piece(cut.next_message(true), with_bytes(piece, &bytes));
+    assert!(rt; is_same && cut.room() == room, "room {room}");
     Ok(())
 }
 
@@ -269,8 +276,8 @@ fn a_message_ends_within_its_limit(rt: HostRuntime) -> Result<(), Fail> {
 // ---- what a message asks
 
 /// What a message asks: its table, `+names` where a line of names comes first, `+keep` where the
-/// connection goes on, and its columns, or how many they are. Of a refused one its code, `+keep` and
-/// its text.
+/// connection goes on, and its columns, or how many they are. Of a refused one its code, `+keep`
+/// and its text.
 fn shown(alloc: Global, read: &Result<Request, ReadErr>) -> Result<String, AllocError> {
     match read {
         Ok(request) => shown_request(alloc, request),
@@ -308,26 +315,22 @@ fn shown_columns(alloc: Global, columns: &[Col]) -> Result<String, AllocError> {
     Ok(shown)
 }
 
-fn keeps(read: &Result<Request, ReadErr>) -> bool {
-    match read {
-        Ok(request) => request.keep,
-        Err(ReadErr::Refused { keep, .. }) => *keep,
-        Err(ReadErr::Memory) => false,
-    }
+/// What a message asks of the empty base.
+fn read(alloc: Global, message: &[u8]) -> Result<String, Fail> {
+    let base = read_objects(alloc, b"", Rules::default())?;
+    let read = read_request(alloc, message, &base);
+    drop(base);
+    Ok(shown(alloc, &read)?)
 }
 
-/// Reads messages, and compares what each asks.
-fn assert_read<R: Abort + AllocGlobal>(
-    rt: &R,
-    base: &Base,
-    cases: &[(&[u8], &str)],
-) -> Result<(), Fail> {
-    for (message, expected) in cases {
-        let read = read_request(rt.alloc(), *message, base);
-        let shown = shown(rt.alloc(), &read)?;
-        assert_eq!(rt; shown.as_str(), *expected, "at {message:?}");
-        assert_eq!(rt; reply_style(*message).keep, keeps(&read), "at {message:?}");
-    }
+/// Reads a message, and compares what it asks.
+fn assert_read<R: Abort + AllocGlobal>(rt: &R, message: &[u8], expected: &str) -> Result<(), Fail> {
+    let shown = read(rt.alloc(), message)?;
+    assert_same(rt, shown.as_str(), expected, &message);
+    assert!(rt;
+        reply_style(message).keep == expected.contains("+keep"),
+        "at {message:?}"
+    );
     Ok(())
 }
 
@@ -574,7 +577,6 @@ const UNKNOWN_COLUMNS: &[(&[u8], &str)] = &[
 
 #[test]
 fn requests_are_read_or_refused(rt: HostRuntime) -> Result<(), Fail> {
-    let base = base_of(rt.alloc(), b"")?;
     for cases in [
         COLUMNS,
         ALL_COLUMNS,
@@ -583,10 +585,19 @@ fn requests_are_read_or_refused(rt: HostRuntime) -> Result<(), Fail> {
         HEADERS,
         UNKNOWN_COLUMNS,
     ] {
-        assert_read(&rt, &base, cases)?;
+        for (message, expected) in cases {
+            assert_read(&rt, *message, *expected)?;
+        }
     }
     Ok(())
 }
+
+/// What follows 256 header lines, and what is asked then.
+const AFTER_256: &[(&[u8], &str)] = &[
+    (b"", "hosts 256 columns"),
+    (b"\nno colon", "400 too many headers"),
+    (b"\n\xff\nKeepAlive: on\n", "400+keep not UTF-8"),
+];
 
 /// A query with 256 header lines, and an end.
 fn with_headers(alloc: Global, end: &[u8]) -> Result<Vec<u8>, AllocError> {
@@ -598,15 +609,9 @@ fn with_headers(alloc: Global, end: &[u8]) -> Result<Vec<u8>, AllocError> {
 
 #[test]
 fn a_message_has_at_most_256_header_lines(rt: HostRuntime) -> Result<(), Fail> {
-    let base = base_of(rt.alloc(), b"")?;
-    let cases: [(&[u8], &str); 3] = [
-        (b"", "hosts 256 columns"),
-        (b"\nno colon", "400 too many headers"),
-        (b"\n\xff\nKeepAlive: on\n", "400+keep not UTF-8"),
-    ];
-    for (end, expected) in cases {
-        let message = with_headers(rt.alloc(), end)?;
-        assert_read(&rt, &base, &[(message.as_slice(), expected)])?;
+    for (end, expected) in AFTER_256 {
+        let message = with_headers(rt.alloc(), *end)?;
+        assert_read(&rt, &message, *expected)?;
     }
     Ok(())
 }

@@ -1,6 +1,6 @@
 //! The tables and their columns, against lists written by hand.
 
-use crate::fixture::opened;
+use crate::fixture::{assert_replies, assert_same, push_all};
 use lq_schema::{
     Col, ColKind, Table, column, column_at, column_count, column_name, kind, table, tables,
 };
@@ -8,8 +8,8 @@ use std::alloc::{AllocError, Global};
 use std::process::Abort;
 use std::test::Fail;
 
-// ---- the tables and their columns, with the letter of their kind: a number, a text, a list of texts, of
-// ---- numbers or of services
+// ---- the tables and their columns, with the letter of their kind: a number, a text, a list of
+// ---- texts, of numbers or of services
 
 const OBJECT: &str = "display_name S,check_command S,check_period S,notification_period S,\
 max_check_attempts I,notes S,notes_url S,action_url S,icon_image S,contacts L,contact_groups L,\
@@ -146,221 +146,186 @@ fn letter(kind: ColKind) -> &'static str {
     }
 }
 
-/// A column's prefix, its name and the letter of its kind, or `none`.
-fn shown(alloc: Global, column: Option<Col>) -> Result<String, AllocError> {
+/// Adds the line of a column: its prefix, its name and the letter of its kind.
+fn push_column(lines: &mut String, column: Option<Col>) -> Result<(), AllocError> {
     match column {
         Some(column) => {
             let name = column_name(column);
             let letter = letter(kind(column));
-            format!(in alloc; "{}|{} {letter}", name.prefix, name.name)
+            push_all(lines, &[name.prefix, "|", name.name, " ", letter, "\n"])
         }
-        None => String::from_str(alloc, "none"),
+        None => lines.push_str("none\n"),
     }
 }
 
-fn assert_shown<R: Abort + AllocGlobal>(
-    rt: &R,
-    column: Option<Col>,
-    expected: &str,
-) -> Result<(), Fail> {
-    let found = shown(rt.alloc(), column)?;
-    assert_eq!(rt; found.as_str(), expected);
-    Ok(())
-}
-
-/// A table whose columns are compared with a list, and the lines that a query tells of them.
-#[derive(Drop)]
-struct Listing<'a> {
-    name: &'a str,
-    own_prefix: &'a str,
-    table: Table,
-    place: usize,
-    lines: &'a mut String,
-}
-
-impl Listing<'_> {
-    /// Compares the next column with its prefix and its entry of the list, and finds it by its name.
-    fn assert_next<R: Abort + AllocGlobal>(
-        &mut self,
-        rt: &R,
-        prefix: &str,
-        entry: &str,
-    ) -> Result<(), Fail> {
-        assert!(rt; self.place < column_count(self.table));
-        let expected = format!(in rt.alloc(); "{prefix}|{entry}")?;
-        let found = column_at(self.table, self.place);
-        assert_shown(rt, Some(found), expected.as_str())?;
-        self.assert_named(rt, prefix, entry, expected.as_str())?;
-        self.place = self.place.wrapping_add(1);
-        Ok(())
-    }
-
-    /// Finds a column by its name, with the table's own prefix too, and adds its line.
-    fn assert_named<R: Abort + AllocGlobal>(
-        &mut self,
-        rt: &R,
-        prefix: &str,
-        entry: &str,
-        expected: &str,
-    ) -> Result<(), Fail> {
-        let (name, letter) = entry.split_once(' ').ok_or("no kind")?;
-        let own_prefix = self.own_prefix;
-        let whole = format!(in rt.alloc(); "{prefix}{name}")?;
-        let longer = format!(in rt.alloc(); "{own_prefix}{whole}")?;
-        assert_shown(rt, column(self.table, whole.as_str()), expected)?;
-        assert_shown(rt, column(self.table, longer.as_str()), expected)?;
-        self.add_line(rt.alloc(), whole.as_str(), letter)?;
-        Ok(())
-    }
-
-    /// Adds the line that a query tells of a column.
-    fn add_line(&mut self, alloc: Global, whole: &str, letter: &str) -> Result<(), AllocError> {
-        let type_name = match letter {
-            "I" => "int",
-            "S" => "string",
-            _ => "list",
-        };
-        let table = self.name;
-        let line = format!(in alloc; "{table};{whole};{type_name};{whole}\n")?;
-        self.lines.push_str(line.as_str())
-    }
-}
-
-/// Compares the columns of a table, and adds the lines that a query tells of them.
-fn assert_table<R: Abort + AllocGlobal>(
-    rt: &R,
+/// Adds the lines of the column that a name means, and of the one that it means after a prefix.
+fn push_named(
     lines: &mut String,
-    listed: &Listed,
-) -> Result<(), Fail> {
-    let (name, own_prefix, count, parts) = *listed;
-    let table = table(name).ok_or(name)?;
-    let mut listing = Listing {
-        name,
-        own_prefix,
-        table,
-        place: 0,
-        lines,
-    };
-    for joined in parts {
-        assert_joined(rt, &mut listing, joined)?;
-    }
-    assert_eq!(rt; listing.place, count, "at {name}");
-    assert_eq!(rt; column_count(table), count, "at {name}");
-    Ok(())
+    alloc: Global,
+    table: Table,
+    parts: &[&str; 3],
+) -> Result<(), AllocError> {
+    let mut name = String::new(alloc);
+    push_all(&mut name, &parts[1..])?;
+    push_column(lines, column(table, name.as_str()))?;
+    let mut longer = String::new(alloc);
+    push_all(&mut longer, parts)?;
+    push_column(lines, column(table, longer.as_str()))
 }
 
-fn assert_joined<R: Abort + AllocGlobal>(
-    rt: &R,
-    listing: &mut Listing<'_>,
-    joined: &Joined,
-) -> Result<(), Fail> {
-    let (prefix, blocks) = *joined;
-    for block in blocks {
-        assert_block(rt, listing, prefix, *block)?;
+/// Three lines for each column of a table: as the column that stands there, as the one that its
+/// name means, and as the one that its name means after the table's own prefix.
+fn columns_of(alloc: Global, table: Table, own_prefix: &'static str) -> Result<String, AllocError> {
+    let mut lines = String::new(alloc);
+    for i in 0..column_count(table) {
+        let column = column_at(table, i);
+        push_column(&mut lines, Some(column))?;
+        let name = column_name(column);
+        push_named(
+            &mut lines,
+            alloc,
+            table,
+            &[own_prefix, name.prefix, name.name],
+        )?;
     }
-    Ok(())
+    Ok(lines)
 }
 
-fn assert_block<R: Abort + AllocGlobal>(
-    rt: &R,
-    listing: &mut Listing<'_>,
-    prefix: &str,
-    block: &str,
-) -> Result<(), Fail> {
-    for entry in block.split(',') {
-        listing.assert_next(rt, prefix, entry)?;
+/// What is expected of tables: the three lines for each column, and the line that a query tells of
+/// it.
+#[derive(Drop)]
+struct Expected {
+    lines: String,
+    told: String,
+}
+
+impl Expected {
+    fn push_entry(&mut self, table: &str, prefix: &str, entry: &str) -> Result<(), Fail> {
+        for _ in 0..3 {
+            push_all(&mut self.lines, &[prefix, "|", entry, "\n"])?;
+        }
+        let (name, letter) = entry.split_once(' ').ok_or("no kind")?;
+        let type_name = match letter {
+            "I" => ";int;",
+            "S" => ";string;",
+            _ => ";list;",
+        };
+        let line = [table, ";", prefix, name, type_name, prefix, name, "\n"];
+        Ok(push_all(&mut self.told, &line)?)
     }
-    Ok(())
+
+    fn push_block(&mut self, table: &str, prefix: &str, block: &str) -> Result<(), Fail> {
+        for entry in block.split(',') {
+            self.push_entry(table, prefix, entry)?;
+        }
+        Ok(())
+    }
+
+    fn push_joined(&mut self, table: &str, (prefix, blocks): Joined) -> Result<(), Fail> {
+        for block in blocks {
+            self.push_block(table, prefix, *block)?;
+        }
+        Ok(())
+    }
+
+    /// Compares the columns of a table.
+    fn assert_table<R: Abort + AllocGlobal>(
+        &mut self,
+        rt: &R,
+        (name, own_prefix, count, parts): Listed,
+    ) -> Result<(), Fail> {
+        let table = table(name).ok_or(name)?;
+        assert!(rt; column_count(table) == count, "at {name}");
+        self.lines.clear();
+        for joined in parts {
+            self.push_joined(name, *joined)?;
+        }
+        let lines = columns_of(rt.alloc(), table, own_prefix)?;
+        assert_same(rt, lines.as_str(), self.lines.as_str(), &name);
+        Ok(())
+    }
 }
 
 #[test]
 fn each_table_has_its_columns_in_order(rt: HostRuntime) -> Result<(), Fail> {
-    let mut lines = String::from_str(rt.alloc(), "table;name;type;description\n")?;
+    let mut expected = Expected {
+        lines: String::new(rt.alloc()),
+        told: String::from_str(rt.alloc(), "table;name;type;description\n")?,
+    };
     for listed in LISTED {
-        assert_table(&rt, &mut lines, listed)?;
+        expected.assert_table(&rt, *listed)?;
     }
-    assert_eq!(rt; tables().len(), LISTED.len());
-    let site = opened(rt.alloc(), "")?;
-    let told = site.ask(rt.alloc(), "GET columns")?;
-    assert!(rt; told.as_str() == lines.as_str(), "{told}");
-    Ok(())
+    assert!(rt; tables().len() == LISTED.len());
+    assert_replies(&rt, b"", "", &[("GET columns", expected.told.as_str())])
 }
 
-/// A table, a name, and the column that it means there.
-const MEANT: &[(&str, &str, &str)] = &[
-    ("hosts", "host_name", "|name"),
-    ("hosts", "host_host_name", "none"),
-    ("hosts", "service_state", "none"),
-    ("hosts", "Name", "none"),
-    ("hosts", "name ", "none"),
-    ("hosts", "host_", "none"),
-    ("hosts", "", "none"),
-    ("services", "service_description", "|description"),
-    ("services", "host_name", "host_|name"),
-    ("services", "service_host_name", "host_|name"),
-    ("services", "name", "none"),
-    ("hostgroups", "hostgroup_members", "|members"),
-    ("servicegroups", "servicegroup_members", "|members"),
-    ("contacts", "contact_email", "|email"),
-    (
-        "contacts",
-        "host_notification_period",
-        "|host_notification_period",
-    ),
-    ("contactgroups", "contactgroup_alias", "|alias"),
-    ("commands", "command_line", "|line"),
-    ("timeperiods", "timeperiod_alias", "|alias"),
-    ("downtimes", "downtime_id", "|id"),
-    ("downtimes", "service_description", "service_|description"),
-    ("comments", "comment_comment", "|comment"),
-    ("comments", "comment_host_name", "host_|name"),
-    ("status", "status_num_hosts", "|num_hosts"),
-    ("columns", "column_type", "|type"),
-    ("hostsbygroup", "host_alias", "|alias"),
-    ("hostsbygroup", "hostgroup_alias", "hostgroup_|alias"),
-    ("servicesbygroup", "servicegroup_name", "servicegroup_|name"),
-    ("servicesbyhostgroup", "host_state", "host_|state"),
-];
+/// A table, a name, and the prefix and the name of the column that it means there, or `none`.
+const MEANT: &str = "hosts;host_name;|name
+hosts;host_host_name;none
+hosts;service_state;none
+hosts;Name;none
+hosts;name ;none
+hosts;host_;none
+hosts;;none
+services;service_description;|description
+services;host_name;host_|name
+services;service_host_name;host_|name
+services;name;none
+hostgroups;hostgroup_members;|members
+servicegroups;servicegroup_members;|members
+contacts;contact_email;|email
+contacts;host_notification_period;|host_notification_period
+contactgroups;contactgroup_alias;|alias
+commands;command_line;|line
+timeperiods;timeperiod_alias;|alias
+downtimes;downtime_id;|id
+downtimes;service_description;service_|description
+comments;comment_comment;|comment
+comments;comment_host_name;host_|name
+status;status_num_hosts;|num_hosts
+columns;column_type;|type
+hostsbygroup;host_alias;|alias
+hostsbygroup;hostgroup_alias;hostgroup_|alias
+servicesbygroup;servicegroup_name;servicegroup_|name
+servicesbyhostgroup;host_state;host_|state
+Hosts;name;no table
+host;name;no table
+hostss;name;no table
+hosts ;name;no table
+ hosts;name;no table
+log;name;no table
+statehist;name;no table
+;name;no table
+";
 
-/// The prefix and the name of the column that a name means, or `none`.
-fn meant(alloc: Global, table: Table, name: &str) -> Result<String, AllocError> {
+/// Adds what a name means in a table.
+fn push_meant(text: &mut String, table: Option<Table>, name: &str) -> Result<(), AllocError> {
+    let Some(table) = table else {
+        return text.push_str("no table\n");
+    };
     match column(table, name) {
         Some(column) => {
             let name = column_name(column);
-            format!(in alloc; "{}|{}", name.prefix, name.name)
+            push_all(text, &[name.prefix, "|", name.name, "\n"])
         }
-        None => String::from_str(alloc, "none"),
+        None => text.push_str("none\n"),
     }
 }
 
-fn assert_meant<R: Abort + AllocGlobal>(
-    rt: &R,
-    (table_name, name, expected): (&str, &str, &str),
-) -> Result<(), Fail> {
-    let table = table(table_name).ok_or("no table")?;
-    let found = meant(rt.alloc(), table, name)?;
-    assert_eq!(rt; found.as_str(), expected, "at {table_name} {name}");
-    Ok(())
+/// Adds a line with what the name in it means.
+fn push_line(text: &mut String, line: &str) -> Result<(), Fail> {
+    let (front, _) = line.rsplit_once(';').ok_or("no meaning")?;
+    let (table_name, name) = front.split_once(';').ok_or("no name")?;
+    push_all(text, &[front, ";"])?;
+    Ok(push_meant(text, table(table_name), name)?)
 }
-
-const NO_TABLES: &[&str] = &[
-    "Hosts",
-    "host",
-    "hostss",
-    "hosts ",
-    " hosts",
-    "log",
-    "statehist",
-    "",
-];
 
 #[test]
 fn names_mean_tables_and_columns(rt: HostRuntime) -> Result<(), Fail> {
-    for case in MEANT {
-        assert_meant(&rt, *case)?;
+    let mut text = String::new(rt.alloc());
+    for line in MEANT.lines() {
+        push_line(&mut text, line)?;
     }
-    for name in NO_TABLES {
-        assert!(rt; table(*name).is_none(), "at {name:?}");
-    }
+    assert_same(&rt, text.as_str(), MEANT, &"names");
     Ok(())
 }
