@@ -566,10 +566,21 @@ const MOVED_ON: &[Step<'static>] = &[
     ),
 ];
 
+/// The present second moves on to the largest one of a command.
+fn assert_last_second<R: Abort + AllocGlobal>(rt: &R, site: &mut Site) -> Result<(), Fail> {
+    for second in [1_000_000_000_000, u64::MAX] {
+        site.apply(second, Text::empty(rt.alloc()), Act::Unknown)?;
+        assert!(rt; site.live.now() == 999_999_999_999);
+    }
+    Ok(())
+}
+
 #[test]
 fn switches_and_the_present_second_move(rt: HostRuntime) -> Result<(), Fail> {
     assert_steps(&rt, SITE, SWITCHES, SWITCHED)?;
-    assert_steps(&rt, SITE, MOMENTS, MOVED_ON)
+    assert_steps(&rt, SITE, MOMENTS, MOVED_ON)?;
+    let mut site = Site::open(rt.alloc(), SITE, SITE)?;
+    assert_last_second(&rt, &mut site)
 }
 
 /// Each command that no object takes: its code is out of range, its object isn't in the state,
@@ -638,22 +649,8 @@ fn assert_without_effect<R: Abort + AllocGlobal>(rt: &R, site: &mut Site) -> Res
     Ok(())
 }
 
-/// The present second moves on to the largest one of a command.
-fn assert_last_second<R: Abort + AllocGlobal>(rt: &R, site: &mut Site) -> Result<(), Fail> {
-    for second in [1_000_000_000_000, u64::MAX] {
-        site.apply(second, Text::empty(rt.alloc()), Act::Unknown)?;
-        assert!(rt; site.live.now() == 999_999_999_999);
-    }
-    Ok(())
-}
-
-fn assert_behind<R: Abort + AllocGlobal>(rt: &R, site: &mut Site) -> Result<(), Fail> {
-    assert_without_effect(rt, site)?;
-    assert_last_second(rt, site)
-}
-
 #[test]
 fn a_command_without_effect_writes_its_line_alone(rt: HostRuntime) -> Result<(), Fail> {
     let mut site = behind(rt.alloc())?;
-    assert_behind(&rt, &mut site)
+    assert_without_effect(&rt, &mut site)
 }
