@@ -1,4 +1,5 @@
 ghost use Rattle.std.specs.Prelude.{◌≡◌, IfOk};
+ghost use Rattle.lq_schema.specs.Kinds.{own_kind};
 
 use lq_records::Memory;
 use lq_schema::{Col, ColKind, kind};
@@ -14,11 +15,15 @@ pub struct ShownColumn {
 }
 
 impl Model for ShownColumn {
+    ghost use Rattle.std.specs.Prelude.{◌≡◌};
+    ghost use Rattle.lq_schema.specs.Kinds.{own_kind};
     ghost use Rattle.lq_schema.specs.declared.columns.Col.{Col};
 
     ghost Value = { Col };
 
     ghost view = { λ shown. shown.column };
+
+    ghost invariant = { λ shown. shown.kind ≡ own_kind shown.column.own };
 }
 
 impl ShownColumn {
@@ -39,7 +44,9 @@ impl ShownColumn {
     }
 
     /// What the values of the column are.
-    pub fn kind(&self) -> ColKind {
+    pub fn kind(&self) -> ColKind
+        ensures { result ≡ own_kind self.now.own }
+    {
         self.kind
     }
 }
