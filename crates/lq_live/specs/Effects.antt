@@ -38,7 +38,7 @@ unfoldable pub alert_line : ℕ → LineNames → CheckAttempt → ℤ → List 
 alert_line now names attempt new output =
     written now
     (form.Alert names.host names.service new attempt.hard attempt.number
-        (before_first is_bar output))
+    (before_first is_bar output))
 
 abbrev pub result_edits : ℕ → Object → LineNames → CheckAttempt → ℤ → List ℕ → Status → List Edit
 result_edits now object names attempt new output old =
@@ -56,7 +56,7 @@ abbrev pub check_result : Object → ℕ → List ℕ → State → List Edit
 check_result object code output s =
     if nat_le code (most_code object)
     then result_of s.now s.base object (pos code) output (names_of s.base object)
-        (status_of s object)
+    (status_of s object)
     else []
 
 -- ---- comments and acknowledgements
