@@ -60,19 +60,19 @@ pub fn names_of<I: Named>(alloc: Global, base: &Base, ids: &[I]) -> Result<Items
 {
     let mut names = Items::new(alloc);
     for id in ids {
-        push_name(alloc, &mut names, id.name(base))?;
+        push_name(&mut names, id.name(base))?;
     }
     Ok(names)
 }
 
-/// Adds a copy of a name, where there is one.
-fn push_name(alloc: Global, names: &mut Items<Text>, name: Option<&Text>) -> Result<(), Memory>
+/// Adds a name, where there is one. The text is shared.
+fn push_name(names: &mut Items<Text>, name: Option<&Text>) -> Result<(), Memory>
     ensures { OnOk result (names.new ≡ names.old ++ option_to_list (option_copied name.entry)) }
 {
     let Some(name) = name else {
         return Ok(());
     };
-    names.push(Text::new(alloc, name.as_str())?)
+    names.push(name.clone()?)
 }
 
 // ---- groups that list an object
@@ -92,7 +92,7 @@ fn names_with_host(alloc: Global, groups: &[HostGroup], id: HostId) -> Result<It
 {
     let mut names = Items::new(alloc);
     for group in groups {
-        push_name(alloc, &mut names, name_with_host(group, id))?;
+        push_name(&mut names, name_with_host(group, id))?;
     }
     Ok(names)
 }
@@ -123,7 +123,7 @@ fn names_with_service(
 {
     let mut names = Items::new(alloc);
     for group in groups {
-        push_name(alloc, &mut names, name_with_service(group, id))?;
+        push_name(&mut names, name_with_service(group, id))?;
     }
     Ok(names)
 }
@@ -153,7 +153,7 @@ pub(crate) fn child_names(alloc: Global, base: &Base, id: HostId) -> Result<Item
     let mut names = Items::new(alloc);
     let hosts = base.hosts.as_slice();
     for host in hosts {
-        push_name(alloc, &mut names, name_below(host, id))?;
+        push_name(&mut names, name_below(host, id))?;
     }
     Ok(names)
 }
@@ -175,7 +175,7 @@ pub(crate) fn descriptions(alloc: Global, base: &Base, id: HostId) -> Result<Ite
     let mut names = Items::new(alloc);
     let services = base.services.as_slice();
     for service in services {
-        push_name(alloc, &mut names, description_on(service, id))?;
+        push_name(&mut names, description_on(service, id))?;
     }
     Ok(names)
 }
@@ -219,7 +219,7 @@ pub(crate) fn variable_values(alloc: Global, fields: &ObjectFields) -> Result<It
     let mut values = Items::new(alloc);
     let variables = fields.custom_variables.as_slice();
     for variable in variables {
-        values.push(Text::new(alloc, variable.1.as_str())?)?;
+        values.push(variable.1.clone()?)?;
     }
     Ok(values)
 }

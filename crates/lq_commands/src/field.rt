@@ -122,7 +122,7 @@ impl<'a> Fields<'a> {
     {
         match self.rest {
             Some(rest) => Text::new(self.alloc, rest),
-            None => Ok(Text::empty(self.alloc)),
+            None => Ok(Text::empty()),
         }
     }
 
@@ -133,7 +133,7 @@ impl<'a> Fields<'a> {
         ensures rest { self.new ≡ later self.old }
     {
         let name = Text::new(self.alloc, self.next().ok_or(FieldErr::Faulty)?)?;
-        let name = Name::single(self.alloc, name);
+        let name = Name::single(name);
         self.names.find_host(&name).ok_or(FieldErr::Faulty)
     }
 

@@ -72,7 +72,7 @@ fn host_names(alloc: Global, hosts: &[Host]) -> Result<NameIndex, Memory>
 {
     let mut names = NameIndex::new(alloc);
     for host in hosts {
-        let name = Name::single(alloc, Text::new(alloc, host.host_name.as_str())?);
+        let name = Name::single(host.host_name.clone()?);
         names.push(name)?;
     }
     Ok(names)
@@ -85,19 +85,18 @@ fn service_names(alloc: Global, hosts: &[Host], services: &[Service]) -> Result<
 {
     let mut names = NameIndex::new(alloc);
     for service in services {
-        names.push(service_name(alloc, hosts, service)?)?;
+        names.push(service_name(hosts, service)?)?;
     }
     Ok(names)
 }
 
 /// The name of a service, whose first part is empty where its host isn't there.
-fn service_name(alloc: Global, hosts: &[Host], service: &Service) -> Result<Name, Memory>
+fn service_name(hosts: &[Host], service: &Service) -> Result<Name, Memory>
     ensures { IfOk result (λ name. name ≡ service_name hosts.now service.now) }
 {
     let host = match hosts.get(service.host.0 as usize) {
-        Some(host) => Text::new(alloc, host.host_name.as_str())?,
-        None => Text::empty(alloc),
+        Some(host) => host.host_name.clone()?,
+        None => Text::empty(),
     };
-    let description = Text::new(alloc, service.service_description.as_str())?;
-    Ok(Name::new(host, description))
+    Ok(Name::new(host, service.service_description.clone()?))
 }

@@ -173,7 +173,7 @@ fn look_ahead(live: &mut LiveState)
 }
 
 /// The status of an object that was never checked.
-fn pending(alloc: Global, notifications: u8) -> Status
+fn pending(notifications: u8) -> Status
     ensures { result ≡ pending notifications }
 {
     Status {
@@ -185,8 +185,8 @@ fn pending(alloc: Global, notifications: u8) -> Status
         last_state_change: 0,
         last_hard_state_change: 0,
         last_hard_state: 0,
-        plugin_output: Text::empty(alloc),
-        perf_data: Text::empty(alloc),
+        plugin_output: Text::empty(),
+        perf_data: Text::empty(),
         acknowledged: 0,
         acknowledgement_type: 0,
         notifications_enabled: notifications,
@@ -199,7 +199,7 @@ fn pending_hosts(alloc: Global, hosts: &[Host]) -> Result<Vec<Status>, Memory>
 {
     let mut list = Vec::with_capacity(alloc, hosts.len())?;
     for host in hosts {
-        list.push(pending(alloc, host.fields.notifications_enabled))?;
+        list.push(pending(host.fields.notifications_enabled))?;
     }
     Ok(list)
 }
@@ -210,7 +210,7 @@ fn pending_services(alloc: Global, services: &[Service]) -> Result<Vec<Status>, 
 {
     let mut list = Vec::with_capacity(alloc, services.len())?;
     for service in services {
-        list.push(pending(alloc, service.fields.notifications_enabled))?;
+        list.push(pending(service.fields.notifications_enabled))?;
     }
     Ok(list)
 }

@@ -7,7 +7,6 @@ use crate::field::Field;
 use crate::read::blank;
 use lq_events::{Kind, LogEntry};
 use lq_records::Text;
-use std::alloc::Global;
 use std::marker::Model;
 
 /// A form of a log line: the class and the kind of its entry, and the fields of its text.
@@ -32,7 +31,7 @@ impl Model for LineForm {
 
 impl LineForm {
     /// The form with a name. None where no form has it.
-    pub(crate) fn named(alloc: Global, name: &str) -> Option<Self>
+    pub(crate) fn named(name: &str) -> Option<Self>
         ensures { result ≡ form_named name.now }
     {
         Some(match name {
@@ -55,7 +54,7 @@ impl LineForm {
             "EXTERNAL COMMAND" => form(COMMAND, Kind::ExternalCommand, NO_FIELDS),
             "PASSIVE HOST CHECK" => form(CHECK, Kind::PassiveHostCheck, HOST_CHECK),
             "PASSIVE SERVICE CHECK" => form(CHECK, Kind::PassiveServiceCheck, SERVICE_CHECK),
-            "TIMEPERIOD TRANSITION" => form(STATE, no_transition(alloc), TRANSITION),
+            "TIMEPERIOD TRANSITION" => form(STATE, no_transition(), TRANSITION),
             _ => return None,
         })
     }
@@ -68,10 +67,10 @@ impl LineForm {
     }
 
     /// An entry of the form without its fields.
-    pub(crate) fn into_blank(self, alloc: Global) -> LogEntry
+    pub(crate) fn into_blank(self) -> LogEntry
         ensures { result ≡ blank self.class self.kind }
     {
-        blank(alloc, self.class, self.kind)
+        blank(self.class, self.kind)
     }
 }
 
@@ -86,11 +85,11 @@ fn form(class: u8, kind: Kind, fields: &'static [Field]) -> LineForm
 }
 
 /// A transition of which nothing is known yet.
-fn no_transition(alloc: Global) -> Kind
+fn no_transition() -> Kind
     ensures { result ≡ no_transition }
 {
     Kind::TimeperiodTransition {
-        name: Text::empty(alloc),
+        name: Text::empty(),
         from: 0,
         to: 0,
     }

@@ -37,7 +37,7 @@ pub(crate) fn said(alloc: Global, text: &str) -> Result<LogEntry, Memory>
 {
     match with_form(alloc, text)? {
         Some(entry) => Ok(entry),
-        None => Ok(other(alloc, text)),
+        None => Ok(other(text)),
     }
 }
 
@@ -48,14 +48,14 @@ fn with_form(alloc: Global, text: &str) -> Result<Option<LogEntry>, Memory>
     let Some((name, rest)) = parted(text) else {
         return Ok(None);
     };
-    let Some(form) = LineForm::named(alloc, name) else {
+    let Some(form) = LineForm::named(name) else {
         return Ok(None);
     };
-    with_fields(alloc, form.fields(), rest, form.into_blank(alloc))
+    with_fields(alloc, form.fields(), rest, form.into_blank())
 }
 
 /// The entry of a text without a form.
-fn other(alloc: Global, text: &str) -> LogEntry
+fn other(text: &str) -> LogEntry
     ensures { result ≡ other text.now }
 {
     let class = if is_of_program(text) {
@@ -63,7 +63,7 @@ fn other(alloc: Global, text: &str) -> LogEntry
     } else {
         class::OTHER
     };
-    blank(alloc, class, Kind::Other)
+    blank(class, Kind::Other)
 }
 
 /// Whether a text tells of the program's own run.
@@ -82,22 +82,22 @@ fn is_of_program(text: &str) -> bool
 }
 
 /// An entry of a class and a kind that says nothing more.
-pub(crate) fn blank(alloc: Global, class: u8, kind: Kind) -> LogEntry
+pub(crate) fn blank(class: u8, kind: Kind) -> LogEntry
     ensures { result ≡ blank class kind }
 {
     LogEntry {
         time: 0,
         class,
         kind,
-        message: Text::empty(alloc),
-        host: Text::empty(alloc),
-        service: Text::empty(alloc),
+        message: Text::empty(),
+        host: Text::empty(),
+        service: Text::empty(),
         state: 0,
-        word: Text::empty(alloc),
+        word: Text::empty(),
         attempt: 0,
-        contact: Text::empty(alloc),
-        command: Text::empty(alloc),
-        output: Text::empty(alloc),
-        comment: Text::empty(alloc),
+        contact: Text::empty(),
+        command: Text::empty(),
+        output: Text::empty(),
+        comment: Text::empty(),
     }
 }

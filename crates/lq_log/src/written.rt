@@ -67,7 +67,7 @@ fn stamped(alloc: Global, time: u64, text: &str) -> Result<Text, Memory>
     line.push_str(time.to_string(alloc)?.as_str())?;
     line.push_str("] ")?;
     line.push_str(text)?;
-    Ok(Text::from_string(line))
+    Text::from_string(line)
 }
 
 /// The text of a form.

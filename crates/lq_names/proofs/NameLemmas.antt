@@ -1,8 +1,7 @@
 -- Names, and the keys under which they are kept.
-use Rattle.std.proofs.Common.{◌≡◌, ℕ, suc, ◌+◌, ◌≤◌, ◌&&◌, Bool, true, false, Option, Some, None, List, [], ◌∷◌, ◌++◌, String, Global, length, map, cond, nat_lt, refl, sym, ap, ◌∙◌, subst, get_or, is_some, true≢false, ◌<◌, ⊎_elim, arith}
-use Rattle.std.specs.Prelude.{string_bytes, not, if◌then◌else◌}
+use Rattle.std.proofs.Common.{◌≡◌, ℕ, suc, ◌+◌, ◌≤◌, ◌&&◌, Bool, true, false, Option, Some, None, List, [], ◌∷◌, ◌++◌, length, map, cond, nat_lt, refl, sym, ap, ◌∙◌, subst, get_or, is_some, true≢false, ◌<◌, ⊎_elim, arith}
+use Rattle.std.specs.Prelude.{bytes_eq, not, if◌then◌else◌}
 use Rattle.std.specs.List.{list_any, position, position_or_len, prefix_len}
-use Rattle.std.specs.String.{string_eq}
 use Rattle.std.proofs.lemmas.Bool.{cond-false, cond-true, cases_lt, le-ltb, lt-ltb}
 use Rattle.std.proofs.lemmas.List.{get_or_default, map-append}
 use Rattle.std.proofs.lemmas.List.Sums.{fails_before_first, passes_at_first}
@@ -10,10 +9,10 @@ use Rattle.std.proofs.lemmas.List.Folds.{list_any-from_Any, list_any_none}
 use Rattle.lq_names.specs.Names.{Name, is_same, place_of}
 
 abbrev pub Key : Type 0
-Key = String Global × String Global
+Key = List ℕ × List ℕ
 
 abbrev pub key_name : Key → Name
-key_name key = record { first = string_bytes key.0; second = string_bytes key.1 }
+key_name key = record { first = key.0; second = key.1 }
 
 prefix_len-map : {X Y : Type 0} (p : Y → Bool) (f : X → Y) (xs : List X) → prefix_len p (map f xs) ≡ prefix_len (λ x. p (f x)) xs
 prefix_len-map p f [] = refl
@@ -31,14 +30,14 @@ position-map p f xs =
 abbrev named : List ℕ → List ℕ → Name
 named first second = record { first = first; second = second }
 
-name_from : (key : Key) (name : Name) → string_bytes key.0 ≡ name.first → string_bytes key.1 ≡ name.second → key_name key ≡ name
+name_from : (key : Key) (name : Name) → key.0 ≡ name.first → key.1 ≡ name.second → key_name key ≡ name
 name_from key name first second =
-    ap (λ text. named text (string_bytes key.1)) first ∙ ap (λ text. named name.first text) second
+    ap (λ text. named text (key.1)) first ∙ ap (λ text. named name.first text) second
 
-pub place_of-key : (keys : List Key) (key : Key) (name : Name) → string_bytes key.0 ≡ name.first → string_bytes key.1 ≡ name.second
-    → position (λ other. string_eq key.0 other.0 && string_eq key.1 other.1) keys ≡ place_of (map key_name keys) name
+pub place_of-key : (keys : List Key) (key : Key) (name : Name) → key.0 ≡ name.first → key.1 ≡ name.second
+    → position (λ other. bytes_eq key.0 other.0 && bytes_eq key.1 other.1) keys ≡ place_of (map key_name keys) name
 place_of-key keys key name first second =
-    subst (λ named. position (λ other. string_eq key.0 other.0 && string_eq key.1 other.1) keys ≡ place_of (map key_name keys) named)
+    subst (λ named. position (λ other. bytes_eq key.0 other.0 && bytes_eq key.1 other.1) keys ≡ place_of (map key_name keys) named)
     (name_from key name first second) (sym (position-map (is_same (key_name key)) key_name keys))
 
 -- ---- a name that is added
@@ -74,12 +73,12 @@ none_from_is_some None absent = refl
 none_from_is_some (Some value) absent = absurd (true≢false absent)
 
 pub added_key : (keys new : List Key) (key : Key) (name : Name) (names : List Name) → map key_name keys ≡ names
-    → string_bytes key.0 ≡ name.first → string_bytes key.1 ≡ name.second → place_of names name ≡ None
-    → new ≡ (if list_any (λ other. string_eq key.0 other.0 && string_eq key.1 other.1) keys then keys else keys ++ key ∷ [])
+    → key.0 ≡ name.first → key.1 ≡ name.second → place_of names name ≡ None
+    → new ≡ (if list_any (λ other. bytes_eq key.0 other.0 && bytes_eq key.1 other.1) keys then keys else keys ++ key ∷ [])
     → map key_name new ≡ names ++ name ∷ []
 added_key keys new key name names view first second absent inserted =
     let none = place_of-key keys key name first second ∙ ap (λ all. place_of all name) view ∙ absent in
-    let test = list_any-from_position (λ (other : Key). string_eq key.0 other.0 && string_eq key.1 other.1) keys none in
+    let test = list_any-from_position (λ (other : Key). bytes_eq key.0 other.0 && bytes_eq key.1 other.1) keys none in
     ap (map key_name) (inserted ∙ cond-false _ keys (keys ++ key ∷ []) test)
     ∙ map-append key_name keys (key ∷ [])
     ∙ ap (λ all. all ++ key_name key ∷ []) view

@@ -1,25 +1,22 @@
-ghost use Rattle.std.specs.Prelude.{◌≡◌, string_bytes};
+ghost use Rattle.std.specs.Prelude.{◌≡◌};
 ghost use Rattle.lq_names.specs.Names.{single};
 
 use lq_records::Text;
-use std::alloc::Global;
 use std::marker::Model;
 
 /// A name. A service's has two parts: its host's name and its description. Any other has an empty
 /// second part. Contracts see both parts as their bytes.
 #[derive(Drop)]
 pub struct Name {
-    parts: (String, String),
+    parts: (Text, Text),
 }
 
 impl Model for Name {
-    ghost use Rattle.std.specs.Prelude.{string_bytes};
     ghost use Rattle.lq_names.specs.Names.{Name};
 
     ghost Value = { Name };
 
-    ghost view = { λ name.
-        record { first = string_bytes name.parts.0; second = string_bytes name.parts.1 } };
+    ghost view = { λ name. record { first = name.parts.0; second = name.parts.1 } };
 }
 
 impl Name {
@@ -28,16 +25,16 @@ impl Name {
         ensures { result ≡ record { first = first; second = second } }
     {
         Name {
-            parts: (first.into_string(), second.into_string()),
+            parts: (first, second),
         }
     }
 
     /// A name of one part. It takes no memory.
-    pub fn single(alloc: Global, first: Text) -> Self
+    pub fn single(first: Text) -> Self
         ensures { result ≡ single first }
     {
         Name {
-            parts: (first.into_string(), String::new(alloc)),
+            parts: (first, Text::empty()),
         }
     }
 
@@ -55,16 +52,16 @@ impl Name {
         self.parts.1.as_str()
     }
 
-    pub(crate) fn parts(&self) -> &(String, String)
-        ensures first { string_bytes result.now.0 ≡ self.now.first }
-        ensures second { string_bytes result.now.1 ≡ self.now.second }
+    pub(crate) fn parts(&self) -> &(Text, Text)
+        ensures first { result.now.0 ≡ self.now.first }
+        ensures second { result.now.1 ≡ self.now.second }
     {
         &self.parts
     }
 
-    pub(crate) fn into_parts(self) -> (String, String)
-        ensures first { string_bytes result.0 ≡ self.first }
-        ensures second { string_bytes result.1 ≡ self.second }
+    pub(crate) fn into_parts(self) -> (Text, Text)
+        ensures first { result.0 ≡ self.first }
+        ensures second { result.1 ≡ self.second }
     {
         self.parts
     }

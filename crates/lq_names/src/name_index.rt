@@ -4,6 +4,7 @@ ghost use Rattle.lq_names.specs.Names.{is_same, place_of};
 
 use crate::name::Name;
 use indexmap::IndexSet;
+use lq_records::Text;
 use std::alloc::{AllocError, Global};
 use std::marker::Model;
 
@@ -11,18 +12,17 @@ use std::marker::Model;
 /// There are fewer than 2 ^ 32, so that a `u32` holds each place.
 #[derive(Drop)]
 pub struct NameIndex {
-    names: IndexSet<(String, String)>,
+    names: IndexSet<(Text, Text)>,
 }
 
 impl Model for NameIndex {
-    ghost use Rattle.std.specs.Prelude.{List, ◌<◌, ◌^◌, length, map, string_bytes};
+    ghost use Rattle.std.specs.Prelude.{List, ◌<◌, ◌^◌, length, map};
     ghost use Rattle.lq_names.specs.Names.{Name};
 
     ghost Value = { List Name };
 
     ghost view = { λ index.
-        map (λ key. record { first = string_bytes key.0; second = string_bytes key.1 })
-        index.names.keys };
+        map (λ key. record { first = key.0; second = key.1 }) index.names.keys };
 
     ghost invariant = { λ index. length index.names.keys < 2 ^ 32 };
 }

@@ -1,7 +1,6 @@
 -- What one variable more does to variables of which each name comes once.
-use Rattle.std.proofs.Common.{◌≡◌, ℕ, ◌+◌, ◌<◌, Bool, true, false, not, cond, List, [], ◌∷◌, ◌++◌, String, Global, map, length, get_or, take, refl, sym, ap, ap₂, ◌∙◌, ⊎_elim}
-use Rattle.std.specs.Prelude.{bytes_eq, filter, string_bytes}
-use Rattle.std.specs.String.{string_eq}
+use Rattle.std.proofs.Common.{◌≡◌, ℕ, ◌+◌, ◌<◌, Bool, true, false, not, cond, List, [], ◌∷◌, ◌++◌, map, length, get_or, take, refl, sym, ap, ap₂, ◌∙◌, ⊎_elim}
+use Rattle.std.specs.Prelude.{bytes_eq, filter}
 use Rattle.std.proofs.lemmas.Bool.{both_ways, cases_Bool, false_from_ne_true}
 use Rattle.std.proofs.lemmas.List.{append-nil, map-append, reverse-append}
 use Rattle.std.proofs.lemmas.List.Elements.{filter_more}
@@ -9,7 +8,6 @@ use Rattle.std.proofs.lemmas.Slice.Eq.{bytes_eq-Decides}
 use Rattle.indexmap.specs.IndexMap.{insert_entry}
 use Rattle.lq_objects.specs.Blocks.{Line}
 use Rattle.lq_objects.specs.Objects.{custom_variables, is_variable, last_value, merged, variable_of}
-use Rattle.lq_objects.specs.Views.{entry_texts}
 
 abbrev pub Pair : Type 0
 Pair = List ℕ × List ℕ
@@ -73,16 +71,6 @@ merged-push (first ∷ later) new =
     let turn = turned new.0 first.0 false differs in
     step ∙ rw differs (ap₂ (λ value rest. (first.0, value) ∷ rest) (last_value-other first new later turn) (others_with_other first.0 new turn (merged later))))
     (cases_Bool (bytes_eq new.0 first.0))
-
--- ---- the entries of the code's map
-
-pub entry_texts-insert : (entries : List (String Global × List ℕ)) (name : String Global) (value : List ℕ)
-    → entry_texts (insert_entry string_eq entries name value) ≡ insert_entry bytes_eq (entry_texts entries) (string_bytes name) value
-entry_texts-insert [] name value = refl
-entry_texts-insert (entry ∷ entries) name value = ⊎_elim
-    (λ same. rw same refl)
-    (λ differs. rw differs (ap (λ rest. (string_bytes entry.0, entry.1) ∷ rest) (entry_texts-insert entries name value)))
-    (cases_Bool (string_eq name entry.0))
 
 -- ---- one line more
 

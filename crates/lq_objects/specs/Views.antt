@@ -1,6 +1,5 @@
 -- Texts and lists of them, without where they lie in memory.
-use Rattle.std.specs.Prelude.{ℕ, List, String, map, string_bytes}
-use Rattle.std.specs.Global.{Global}
+use Rattle.std.specs.Prelude.{ℕ, List, map}
 use Rattle.std.specs.Borrow.{Bor}
 use Rattle.std.specs.Option.{option_copied}
 use Rattle.lq_objects.specs.Blocks.{Part}
@@ -8,10 +7,6 @@ use Rattle.lq_objects.specs.declared.part.Part as declared
 
 abbrev pub texts : List (Bor (List ℕ)) → List (List ℕ)
 texts borrowed = map (λ text. text.now) borrowed
-
--- entries by name as pairs of texts
-abbrev pub entry_texts : List (String Global × List ℕ) → List (List ℕ × List ℕ)
-entry_texts entries = map (λ entry. (string_bytes entry.0, entry.1)) entries
 
 -- a part as its lines
 abbrev pub part_of : declared.Part → Part

@@ -32,7 +32,7 @@ pub(crate) fn text_of(alloc: Global, name: &[u8], lines: &[Line<'_>]) -> Result<
 {
     match directive(name, lines) {
         Some(value) => clean_text(alloc, value),
-        None => Ok(Text::empty(alloc)),
+        None => Ok(Text::empty()),
     }
 }
 
@@ -43,7 +43,7 @@ pub(crate) fn name_of(alloc: Global, kind: Kind, lines: &[Line<'_>]) -> Result<N
     let first = text_of(alloc, kind.name_directive(), lines)?;
     let second = match kind.second_directive() {
         Some(name) => text_of(alloc, name, lines)?,
-        None => Text::empty(alloc),
+        None => Text::empty(),
     };
     Ok(Name::new(first, second))
 }

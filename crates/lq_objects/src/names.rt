@@ -50,7 +50,7 @@ pub(crate) fn place_of_whole(
 ) -> Result<Option<u32>, AllocError>
     ensures { IfOk result (λ place. place ≡ place_of index.now (single (cleaned value.now))) }
 {
-    let name = Name::single(alloc, clean_text(alloc, value)?);
+    let name = Name::single(clean_text(alloc, value)?);
     Ok(index.find(&name))
 }
 
@@ -59,7 +59,7 @@ fn whole(alloc: Global, value: &[u8]) -> Result<Vec<Name>, AllocError>
     ensures { IfOk result (λ names. names.items ≡ single (cleaned value.now) ∷ []) }
 {
     let mut names = Vec::new(alloc);
-    names.push(Name::single(alloc, clean_text(alloc, value)?))?;
+    names.push(Name::single(clean_text(alloc, value)?))?;
     Ok(names)
 }
 
@@ -69,7 +69,7 @@ fn singles(alloc: Global, pieces: &[&[u8]]) -> Result<Vec<Name>, AllocError>
 {
     let mut names = Vec::new(alloc);
     for piece in pieces {
-        names.push(Name::single(alloc, clean_text(alloc, piece)?))?;
+        names.push(Name::single(clean_text(alloc, piece)?))?;
     }
     Ok(names)
 }

@@ -1,7 +1,6 @@
 ghost use Rattle.std.specs.Prelude.{◌≡◌, IfOk, OnOk, bytes_eq};
 ghost use Rattle.indexmap.specs.IndexMap.{insert_entry};
 ghost use Rattle.lq_objects.specs.Objects.{custom_variables, variable_of};
-ghost use Rattle.lq_objects.specs.Views.{entry_texts};
 
 use crate::directive::{is_variable, value_of};
 use crate::line::Line;
@@ -20,8 +19,8 @@ pub(crate) fn custom_variables(
 }
 
 /// The last value of each variable, by its name.
-fn values_by_name(alloc: Global, lines: &[Line<'_>]) -> Result<IndexMap<String, Text>, AllocError>
-    ensures { IfOk result (λ values. entry_texts values.entries ≡ custom_variables lines.now) }
+fn values_by_name(alloc: Global, lines: &[Line<'_>]) -> Result<IndexMap<Text, Text>, AllocError>
+    ensures { IfOk result (λ values. values.entries ≡ custom_variables lines.now) }
 {
     let mut values = IndexMap::new(alloc);
     for line in lines {
@@ -33,32 +32,28 @@ fn values_by_name(alloc: Global, lines: &[Line<'_>]) -> Result<IndexMap<String, 
 }
 
 /// Gives a variable the value that its line says.
-fn put(
-    alloc: Global,
-    values: &mut IndexMap<String, Text>,
-    line: &Line<'_>,
-) -> Result<(), AllocError>
+fn put(alloc: Global, values: &mut IndexMap<Text, Text>, line: &Line<'_>) -> Result<(), AllocError>
     ensures { OnOk result
-        (entry_texts values.new.entries
-        ≡ insert_entry bytes_eq (entry_texts values.old.entries) (variable_of line.now).0
+        (values.new.entries
+        ≡ insert_entry bytes_eq values.old.entries (variable_of line.now).0
         (variable_of line.now).1) }
 {
     let name = line.word();
     let value = clean_text(alloc, value_of(name, line.text()))?;
     let name = clean_text(alloc, name)?;
-    match values.insert(name.into_string(), value) {
+    match values.insert(name, value) {
         Ok(_) => Ok(()),
         Err(_) => Err(AllocError),
     }
 }
 
 /// The entries of a map as a list, in order.
-fn pairs(alloc: Global, values: IndexMap<String, Text>) -> Result<Items<(Text, Text)>, AllocError>
-    ensures { IfOk result (λ pairs. pairs ≡ entry_texts values.entries) }
+fn pairs(alloc: Global, values: IndexMap<Text, Text>) -> Result<Items<(Text, Text)>, AllocError>
+    ensures { IfOk result (λ pairs. pairs ≡ values.entries) }
 {
     let mut pairs = Vec::with_capacity(alloc, values.len())?;
     for (name, value) in values {
-        pairs.push((Text::from_string(name), value))?;
+        pairs.push((name, value))?;
     }
     Ok(Items::from_vec(pairs))
 }

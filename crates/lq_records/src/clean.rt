@@ -38,7 +38,7 @@ fn clean_chars(alloc: Global, b: &[u8]) -> Result<Text, Memory>
             }
         }
     }
-    Ok(Text::from_string(whole))
+    Text::from_string(whole)
 }
 
 /// The character that begins at the front.

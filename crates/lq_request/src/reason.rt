@@ -60,7 +60,7 @@ impl Reason {
         text.push_str(word)?;
         Ok(Refusal {
             code,
-            text: Text::from_string(text),
+            text: Text::from_string(text)?,
         })
     }
 }

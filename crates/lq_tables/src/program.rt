@@ -119,7 +119,7 @@ fn whole_name(alloc: Global, column: Col) -> Result<Val<'static>, Memory>
     let name = column_name(column);
     let mut text = String::from_str(alloc, name.prefix)?;
     text.push_str(name.name)?;
-    Ok(Val::Own(Text::from_string(text)))
+    Ok(Val::Own(Text::from_string(text)?))
 }
 
 fn type_name(kind: ColKind) -> &'static str

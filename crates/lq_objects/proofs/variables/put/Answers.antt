@@ -2,16 +2,12 @@ use Rattle.std.proofs.Common.{ap, ap₂, ◌∙◌, bytes_eq}
 use Rattle.indexmap.specs.IndexMap.{insert_entry}
 use Rattle.lq_records.specs.Clean.{cleaned}
 use Rattle.lq_objects.specs.Blocks.{value_of}
-use Rattle.lq_objects.specs.Views.{entry_texts}
-use Rattle.lq_objects.proofs.VariableLemmas.{entry_texts-insert}
 use Rattle.lq_objects.proofs.variables.put.Goals as goal
 
 pub returns-in-Ok : goal.returns-in-Ok
 returns-in-Ok c =
     let old = c.args.values.now.entries in
     let name = c.word-name.ensures in
-    let key = c.into_string.ensures ∙ c.in_ok-name.ensures ∙ ap cleaned name in
+    let key = c.in_ok-name.ensures ∙ ap cleaned name in
     let value = c.in_ok-value.ensures ∙ ap cleaned (c.value_of.ensures ∙ ap₂ value_of name c.text.ensures) in
-    ap entry_texts c.in-Ok.ensures.entries
-    ∙ entry_texts-insert old c.into_string.result c.in_ok-value.value
-    ∙ ap₂ (insert_entry bytes_eq (entry_texts old)) key value
+    c.in-Ok.ensures.entries ∙ ap₂ (insert_entry bytes_eq old) key value
