@@ -2,7 +2,7 @@
 use Rattle.std.proofs.Common.{◌≡◌, ℕ, ◌+◌, ◌-◌, ◌<◌, ◌≤◌, Bool, true, false, List, [], ◌++◌, length, take, drop, refl, sym, ap, ◌∙◌, subst, arith, length-take}
 use Rattle.std.proofs.lemmas.List.{drop-append-le, drop-drop, drop-take, take-append-le}
 use Rattle.std.proofs.lemmas.Grind.{common_steps}
-use Rattle.lq_request.specs.Messages.{Message, message_of, behind, first_piece, IsFirst, IsNext, Piece, More, rest_behind, whole}
+use Rattle.lq_request.specs.Messages.{message_limit, Message, message_of, behind, first_piece, IsFirst, IsNext, Piece, More, rest_behind, whole}
 use Rattle.lq_request.specs.Search.{IsKnown}
 use Rattle.lq_request.specs.Extent.{IsExtent}
 use Rattle.lq_request.specs.Cutting.{Shows, IsWithin, found_piece, taken_by}
@@ -11,7 +11,6 @@ use Rattle.lq_request.specs.declared.extent.MessageKind.{MessageKind}
 use Rattle.lq_request.specs.declared.extent.MessageKind.TheVariants as message
 use Rattle.lq_request.specs.declared.cut.Found.{Found}
 use Rattle.lq_request.specs.declared.cut.Found.TheVariants as found
-use Rattle.lq_request.specs.declared.cut.TheConstants.{MESSAGE_LIMIT}
 use Rattle.lq_request.proofs.ListLemmas.{part_of_front, take_front, take_whole}
 use Rattle.lq_request.proofs.MessageLemmas.{message_kind}
 use Rattle.lq_request.proofs.PieceLemmas.{window_message, piece_ended, piece_long, piece_more, piece_last, first_ended, first_long, first_last}
@@ -42,7 +41,7 @@ drop_all bytes = grind (arith, common_steps)
 -- ---- what the places show
 
 -- more bytes are wanted where no message has ended
-pub shows_unended : (ended : Bool) (bytes : List ℕ) → (window_message bytes).ended ≡ false → length bytes ≤ MESSAGE_LIMIT → ended ≡ false → Shows ended bytes found.More
+pub shows_unended : (ended : Bool) (bytes : List ℕ) → (window_message bytes).ended ≡ false → length bytes ≤ message_limit → ended ≡ false → Shows ended bytes found.More
 unfolding first_piece
 shows_unended ended bytes unended short open' = record {
   next = record {
@@ -54,16 +53,16 @@ shows_unended ended bytes unended short open' = record {
   within = short;
 }
 
-pub shows_unfed : (ended : Bool) (bytes : List ℕ) → (message_of bytes).ended ≡ false → length bytes ≤ MESSAGE_LIMIT → ended ≡ false → Shows ended bytes found.More
+pub shows_unfed : (ended : Bool) (bytes : List ℕ) → (message_of bytes).ended ≡ false → length bytes ≤ message_limit → ended ≡ false → Shows ended bytes found.More
 shows_unfed ended bytes unended short open' =
-    shows_unended ended bytes (ap (λ b. (message_of b).ended) (take_whole MESSAGE_LIMIT bytes short) ∙ unended) short open'
+    shows_unended ended bytes (ap (λ b. (message_of b).ended) (take_whole message_limit bytes short) ∙ unended) short open'
 
-module _ (ended : Bool) (bytes : List ℕ) (extent : Extent) (is : IsExtent (take MESSAGE_LIMIT bytes) extent) where
-  window_length : length (take MESSAGE_LIMIT bytes) ≤ length bytes × length (take MESSAGE_LIMIT bytes) ≤ MESSAGE_LIMIT
-  window_length = (omega (arith, length-take MESSAGE_LIMIT bytes), omega (arith, length-take MESSAGE_LIMIT bytes))
+module _ (ended : Bool) (bytes : List ℕ) (extent : Extent) (is : IsExtent (take message_limit bytes) extent) where
+  window_length : length (take message_limit bytes) ≤ length bytes × length (take message_limit bytes) ≤ message_limit
+  window_length = (omega (arith, length-take message_limit bytes), omega (arith, length-take message_limit bytes))
 
   text_is : take (extent.end - extent.start) (drop extent.start bytes) ≡ (window_message bytes).text
-  text_is = sym (is.text ∙ part_of_front bytes extent.start extent.end MESSAGE_LIMIT is.order (omega (arith, is.behind, is.within, window_length)))
+  text_is = sym (is.text ∙ part_of_front bytes extent.start extent.end message_limit is.order (omega (arith, is.behind, is.within, window_length)))
 
   -- the message that the places show
   abbrev message_piece : Piece
@@ -83,7 +82,7 @@ module _ (ended : Bool) (bytes : List ℕ) (extent : Extent) (is : IsExtent (tak
   unfolding first_piece
   shows_ended low =
       let has : (window_message bytes).ended ≡ true = is.ended ∙ grind arith in
-      let some : extent.kind ≡ message.Nothing → ⊥ = λ none. message_kind (take MESSAGE_LIMIT bytes) has (is.kind ∙ none) in
+      let some : extent.kind ≡ message.Nothing → ⊥ = λ none. message_kind (take message_limit bytes) has (is.kind ∙ none) in
       record {
         next = next_message (piece_ended ended bytes (window_message bytes) has) (first_ended ended bytes has (omega (arith, is.size, is.within, window_length)));
         rest = behind_message extent.kind _ bytes some ∙ behind_ended bytes (window_message bytes) has ∙ ap (λ n. drop n bytes) is.size;
@@ -93,7 +92,7 @@ module _ (ended : Bool) (bytes : List ℕ) (extent : Extent) (is : IsExtent (tak
   not_ended : extent.next ≤ extent.end → (window_message bytes).ended ≡ false
   not_ended high = is.ended ∙ grind arith
 
-  pub shows_long : extent.next ≤ extent.end → MESSAGE_LIMIT < length bytes → Shows ended bytes found.TooLong
+  pub shows_long : extent.next ≤ extent.end → message_limit < length bytes → Shows ended bytes found.TooLong
   unfolding first_piece
   shows_long high long = record {
     next = record {
@@ -105,15 +104,15 @@ module _ (ended : Bool) (bytes : List ℕ) (extent : Extent) (is : IsExtent (tak
     within = omega arith;
   }
 
-  pub shows_more : extent.next ≤ extent.end → length bytes ≤ MESSAGE_LIMIT → ended ≡ false → Shows ended bytes found.More
+  pub shows_more : extent.next ≤ extent.end → length bytes ≤ message_limit → ended ≡ false → Shows ended bytes found.More
   shows_more high short open' = shows_unended ended bytes (not_ended high) short open'
 
-  last_of : (piece : Piece) → extent.next ≤ extent.end → length bytes ≤ MESSAGE_LIMIT → ended ≡ true → first_piece ended bytes ≡ piece → IsFirst piece ended bytes
+  last_of : (piece : Piece) → extent.next ≤ extent.end → length bytes ≤ message_limit → ended ≡ true → first_piece ended bytes ≡ piece → IsFirst piece ended bytes
   unfolding first_piece
   last_of piece high short closed shown =
       subst (λ e. IsFirst piece e bytes) (sym closed) (first_last bytes piece (not_ended high) short (ap (λ e. first_piece e bytes) (sym closed) ∙ shown))
 
-  pub shows_last : extent.next ≤ extent.end → length bytes ≤ MESSAGE_LIMIT → ended ≡ true
+  pub shows_last : extent.next ≤ extent.end → length bytes ≤ message_limit → ended ≡ true
       → Shows ended bytes (found.Message (record { kind = extent.kind; start = extent.start; end = extent.end; next = length bytes }))
   unfolding first_piece
   shows_last high short closed =

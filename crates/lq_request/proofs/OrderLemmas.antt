@@ -4,8 +4,7 @@ use Rattle.std.proofs.lemmas.Bool.{cases_Bool, cases_lt}
 use Rattle.std.proofs.lemmas.List.{drop-append-le, take-append-le}
 use Rattle.std.proofs.lemmas.Grind.{common_steps}
 use Rattle.std.proofs.Math.Logic.{⊎_elim}
-use Rattle.lq_request.specs.Messages.{Message, message_of, before, first_piece, messages, messages_up_to, needed, piece_of, rest_behind, whole, whole_messages, IsCutOff, IsFirst, IsInOrder, IsLast, IsNext, Piece, Query, Command, TooLong, Empty, More}
-use Rattle.lq_request.specs.declared.cut.TheConstants.{MESSAGE_LIMIT}
+use Rattle.lq_request.specs.Messages.{message_limit, Message, message_of, before, first_piece, messages, messages_up_to, needed, piece_of, rest_behind, whole, whole_messages, IsCutOff, IsFirst, IsInOrder, IsLast, IsNext, Piece, Query, Command, TooLong, Empty, More}
 use Rattle.lq_request.specs.declared.extent.MessageKind.{MessageKind}
 use Rattle.lq_request.specs.declared.extent.MessageKind.TheVariants as message
 use Rattle.lq_request.proofs.ListLemmas.{front_more}
@@ -23,11 +22,11 @@ IsMessage Empty = ⊥
 IsMessage More = ⊥
 
 -- a piece that is a message comes from one that has ended, or from the last one
-piece_cases : (ended : Bool) (bytes : List ℕ) (first : Message) → IsMessage (piece_of ended bytes first) → first.ended ≡ false → (ended ≡ true) × (length bytes ≤ MESSAGE_LIMIT)
+piece_cases : (ended : Bool) (bytes : List ℕ) (first : Message) → IsMessage (piece_of ended bytes first) → first.ended ≡ false → (ended ≡ true) × (length bytes ≤ message_limit)
 piece_cases ended bytes first is open' = ⊎_elim
     (λ long. absurd (subst IsMessage (piece_long ended bytes first open' long) is))
     (λ short. ⊎_elim (λ (closed : ended ≡ true). (closed, short)) (λ (more : ended ≡ false). absurd (subst IsMessage (piece_more ended bytes first open' short more) is)) (cases_Bool ended))
-    (cases_lt MESSAGE_LIMIT (length bytes))
+    (cases_lt message_limit (length bytes))
 
 piece_closed : (ended : Bool) (bytes : List ℕ) → IsMessage (first_piece ended bytes) → (window_message bytes).ended ≡ false → ended ≡ true
 unfolding first_piece
@@ -55,7 +54,7 @@ ended_piece ended bytes is = piece_ended ended bytes (window_message bytes) is
 ended_rest : (bytes : List ℕ) → (window_message bytes).ended ≡ true
     → rest_behind (whole (window_message bytes).kind (window_message bytes).text) bytes ≡ drop (window_message bytes).size bytes
 ended_rest bytes is =
-    behind_message (window_message bytes).kind (window_message bytes).text bytes (message_kind (take MESSAGE_LIMIT bytes) is) ∙ behind_ended bytes (window_message bytes) is
+    behind_message (window_message bytes).kind (window_message bytes).text bytes (message_kind (take message_limit bytes) is) ∙ behind_ended bytes (window_message bytes) is
 
 last_rest : (ended : Bool) (bytes : List ℕ) → (window_message bytes).ended ≡ false → IsMessage (first_piece ended bytes) → rest_behind (first_piece ended bytes) bytes ≡ []
 unfolding first_piece
@@ -71,7 +70,7 @@ less ended bytes is =
     ⊎_elim
     (λ (has : (window_message bytes).ended ≡ true).
     let rest = ap (λ p. rest_behind p bytes) (ended_piece ended bytes has) ∙ ended_rest bytes has in
-    let size = message_size (take MESSAGE_LIMIT bytes) has in
+    let size = message_size (take message_limit bytes) has in
     omega (arith, ap length rest, length-drop (window_message bytes).size bytes, size, some))
     (λ (open' : (window_message bytes).ended ≡ false). omega (arith, ap length (last_rest ended bytes open' is), some))
     (cases_Bool (window_message bytes).ended)
@@ -135,7 +134,7 @@ first_other ended bytes piece first = step ended bytes ∙ ap (λ p. before p (m
 -- ---- however the bytes go on
 
 same_window : (bytes more : List ℕ) → (window_message bytes).ended ≡ true → window_message (bytes ++ more) ≡ window_message bytes
-same_window bytes more is = ap message_of (front_more MESSAGE_LIMIT bytes more) ∙ message_stable (take MESSAGE_LIMIT bytes) (take (MESSAGE_LIMIT - length bytes) more) is
+same_window bytes more is = ap message_of (front_more message_limit bytes more) ∙ message_stable (take message_limit bytes) (take (message_limit - length bytes) more) is
 
 ended_first : (closed : Bool) (bytes more : List ℕ) → (window_message bytes).ended ≡ true
     → first_piece closed (bytes ++ more) ≡ whole (window_message bytes).kind (window_message bytes).text
@@ -192,24 +191,24 @@ whole_not_long message.Command text front is = cc
 whole_not_long message.Nothing text front is = cc
 
 -- a piece that is too long comes from a message that hasn't ended, of more bytes
-long_cases : (ended : Bool) (bytes front : List ℕ) (first : Message) → piece_of ended bytes first ≡ TooLong front → (first.ended ≡ false) × (MESSAGE_LIMIT < length bytes)
+long_cases : (ended : Bool) (bytes front : List ℕ) (first : Message) → piece_of ended bytes first ≡ TooLong front → (first.ended ≡ false) × (message_limit < length bytes)
 long_cases ended bytes front first is = ⊎_elim
     (λ (has : first.ended ≡ true). absurd (whole_not_long first.kind first.text front (sym (piece_ended ended bytes first has) ∙ is)))
     (λ (open' : first.ended ≡ false). ⊎_elim (λ long. (open', long)) (λ short. ⊎_elim
     (λ (closed : ended ≡ true). absurd (whole_not_long first.kind first.text front (sym (piece_last ended bytes first open' short closed) ∙ is)))
     (λ (more : ended ≡ false). absurd (let same = sym (piece_more ended bytes first open' short more) ∙ is in cc))
     (cases_Bool ended))
-    (cases_lt MESSAGE_LIMIT (length bytes)))
+    (cases_lt message_limit (length bytes)))
     (cases_Bool first.ended)
 
-long_first : (closed : Bool) (bytes more : List ℕ) → (window_message bytes).ended ≡ false → MESSAGE_LIMIT < length bytes → first_piece closed (bytes ++ more) ≡ TooLong (take MESSAGE_LIMIT bytes)
+long_first : (closed : Bool) (bytes more : List ℕ) → (window_message bytes).ended ≡ false → message_limit < length bytes → first_piece closed (bytes ++ more) ≡ TooLong (take message_limit bytes)
 unfolding first_piece
 long_first closed bytes more is long =
-    let front : take MESSAGE_LIMIT (bytes ++ more) ≡ take MESSAGE_LIMIT bytes = take-append-le MESSAGE_LIMIT bytes more (omega arith) in
-    let longer : MESSAGE_LIMIT < length (bytes ++ more) = omega (arith, length-append bytes more) in
+    let front : take message_limit (bytes ++ more) ≡ take message_limit bytes = take-append-le message_limit bytes more (omega arith) in
+    let longer : message_limit < length (bytes ++ more) = omega (arith, length-append bytes more) in
     ap (λ w. piece_of closed (bytes ++ more) (message_of w)) front ∙ piece_long closed (bytes ++ more) (window_message bytes) is longer ∙ ap TooLong front
 
-last_one : (ended : Bool) (held front : List ℕ) → TooLong front ≡ first_piece ended held → IsLast ended held (TooLong (take MESSAGE_LIMIT held))
+last_one : (ended : Bool) (held front : List ℕ) → TooLong front ≡ first_piece ended held → IsLast ended held (TooLong (take message_limit held))
 unfolding messages whole_messages first_piece
 last_one ended held front is =
     let long = long_cases ended held front (window_message held) (sym is) in

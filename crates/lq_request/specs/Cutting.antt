@@ -1,11 +1,10 @@
 -- What a call of `next_message` shows, and what it leaves.
 use Rattle.std.specs.Prelude.{◌≡◌, ℕ, Bool, ◌-◌, ◌≤◌, List, take, drop, length}
-use Rattle.lq_request.specs.declared.cut.TheConstants.{MESSAGE_LIMIT}
 use Rattle.lq_request.specs.declared.cut.Cutting.{Cutting}
 use Rattle.lq_request.specs.declared.cut.Cutting.TheVariants as cutting
 use Rattle.lq_request.specs.declared.cut.Found.{Found}
 use Rattle.lq_request.specs.declared.cut.Found.TheVariants as found
-use Rattle.lq_request.specs.Messages.{Piece, Query, Command, TooLong, Empty, More, whole, rest_behind, IsNext}
+use Rattle.lq_request.specs.Messages.{message_limit, Piece, Query, Command, TooLong, Empty, More, whole, rest_behind, IsNext}
 
 -- the piece, without where it lies in memory
 abbrev pub shown : Cutting → Piece
@@ -21,20 +20,20 @@ shown cutting.More = More
 abbrev pub found_piece : List ℕ → Found → Piece
 found_piece bytes (found.Message extent) =
     whole extent.kind (take (extent.end - extent.start) (drop extent.start bytes))
-found_piece bytes found.TooLong = TooLong (take MESSAGE_LIMIT bytes)
+found_piece bytes found.TooLong = TooLong (take message_limit bytes)
 found_piece bytes found.More = More
 
 abbrev pub taken_by : Found → ℕ
 taken_by (found.Message extent) = extent.next
-taken_by found.TooLong = MESSAGE_LIMIT
+taken_by found.TooLong = message_limit
 taken_by found.More = 0
 
 -- the places are within the bytes
 abbrev pub IsWithin : List ℕ → Found → Type 0
 IsWithin bytes (found.Message extent) =
     (extent.start ≤ extent.end) × (extent.end ≤ extent.next) × (extent.next ≤ length bytes)
-IsWithin bytes found.TooLong = MESSAGE_LIMIT ≤ length bytes
-IsWithin bytes found.More = length bytes ≤ MESSAGE_LIMIT
+IsWithin bytes found.TooLong = message_limit ≤ length bytes
+IsWithin bytes found.More = length bytes ≤ message_limit
 
 -- the places show what stands first in the bytes
 pub record Shows (ended : Bool) (bytes : List ℕ) (found : Found) : Type 0 where

@@ -1,5 +1,5 @@
 -- What the header lines of a query say, or why one of them is refused.
-use Rattle.std.specs.Prelude.{ℕ, ◌+◌, nat_lt, Bool, not, Option, Some, None, is_none, ok_or, unwrap_or}
+use Rattle.std.specs.Prelude.{ℕ, ◌+◌, ◌==◌, nat_lt, length, Bool, not, Option, Some, None, is_none, ok_or}
 use Rattle.std.specs.Prelude.{Result, Ok, Err, List, [], ◌∷◌, ◌++◌, take, drop, find, bytes_eq, codes, position, if◌then◌else◌}
 use Rattle.std.specs.List.{filter_map}
 use Rattle.std.specs.Str.{is_utf8}
@@ -7,8 +7,7 @@ use Rattle.lq_text.specs.Blanks.{words_of}
 use Rattle.lq_schema.specs.Schema.{column_of}
 use Rattle.lq_schema.specs.declared.columns.Col.{Col}
 use Rattle.lq_schema.specs.declared.columns.Table.{Table}
-use Rattle.lq_request.specs.declared.header.Headers.{Headers}
-use Rattle.lq_request.specs.declared.header.TheConstants.{MOST_HEADERS}
+use Rattle.lq_request.specs.declared.header.Draft.{Draft}
 use Rattle.lq_request.specs.declared.reason.Reason.{Reason}
 use Rattle.lq_request.specs.declared.reason.Reason.TheVariants as reason
 use Rattle.lq_request.specs.Style.{is_colon, switch_value}
@@ -41,52 +40,59 @@ columns_value table name value = some_columns table name (words_of value)
 
 -- ---- a header
 
--- the headers that a well-formed value leaves
-abbrev pub headers_by : {V : Type 0} → Result V Reason → (V → Headers) → Result Headers Reason
-headers_by (Err fault) left = Err fault
-headers_by (Ok value) left = Ok (left value)
+-- the most header lines that a query may have
+abbrev pub most_headers : ℕ
+most_headers = 256
 
--- What the headers say with one more after them, of which this is the name and the value: columns
--- are added, and the last switch decides. Of `KeepAlive` the style speaks.
-unfoldable pub with_header : Table → List ℕ → List ℕ → Headers → Result Headers Reason
-with_header table name value headers =
-    if bytes_eq name (codes "Columns")
-    then headers_by (columns_value table name value)
-    (λ more. record headers { columns = Some (unwrap_or headers.columns [] ++ more) })
+-- the draft that a well-formed value leaves
+abbrev pub draft_by : {V : Type 0} → Result V Reason → (V → Draft) → Result Draft Reason
+draft_by (Err fault) left = Err fault
+draft_by (Ok value) left = Ok (left value)
+
+-- columns are added to those that earlier lines name
+abbrev pub with_columns : List ℕ → List ℕ → Draft → Result Draft Reason
+with_columns name value draft =
+    draft_by (columns_value draft.request.table name value)
+    (λ more. record draft {
+      request = record draft.request { columns = draft.request.columns ++ more };
+    })
+
+-- What a query says with one more header, of which this is the name and the value. The last switch
+-- decides. Of `KeepAlive` the style speaks.
+unfoldable pub with_header : List ℕ → List ℕ → Draft → Result Draft Reason
+with_header name value draft =
+    if bytes_eq name (codes "Columns") then with_columns name value draft
     else if bytes_eq name (codes "ColumnHeaders")
-    then headers_by (switch name value) (λ on. record headers { names = Some on })
-    else if bytes_eq name (codes "KeepAlive")
-    then headers_by (switch name value) (λ on. headers)
+    then draft_by (switch name value) (λ on. record draft { names = Some on })
+    else if bytes_eq name (codes "KeepAlive") then draft_by (switch name value) (λ on. draft)
     else Err (reason.UnknownHeader name)
 
 -- ---- header lines
 
 -- a name goes up to the first colon, the value follows it
-abbrev pub with_header_at : Table → List ℕ → Option ℕ → Headers → Result Headers Reason
-with_header_at table line None headers = Err reason.NoColon
-with_header_at table line (Some colon) headers =
-    with_header table (take colon line) (drop (colon + 1) line) headers
+abbrev pub with_header_at : List ℕ → Option ℕ → Draft → Result Draft Reason
+with_header_at line None draft = Err reason.NoColon
+with_header_at line (Some colon) draft =
+    with_header (take colon line) (drop (colon + 1) line) draft
 
--- The headers with a line after them, by the line's number from 1. Of several faults the first in
+-- What a query says with a line more, by the line's number from 1. Of several faults the first in
 -- this order decides.
-abbrev pub with_line : Table → ℕ → List ℕ → Headers → Result Headers Reason
-with_line table number line headers =
+abbrev pub with_line : ℕ → List ℕ → Draft → Result Draft Reason
+with_line number line draft =
     if not (is_utf8 line) then Err reason.NotUtf8
-    else if nat_lt MOST_HEADERS number then Err reason.TooManyHeaders
-    else with_header_at table line (position is_colon line) headers
+    else if nat_lt most_headers number then Err reason.TooManyHeaders
+    else with_header_at line (position is_colon line) draft
 
-abbrev pub no_headers : Headers
-no_headers = record { columns = None; names = None }
-
--- what follows headers that are well formed
-abbrev pub and_lines :
-    Result Headers Reason → (Headers → Result Headers Reason) → Result Headers Reason
+-- what follows lines that are well formed
+abbrev pub and_lines : Result Draft Reason → (Draft → Result Draft Reason) → Result Draft Reason
 and_lines (Err fault) later = Err fault
-and_lines (Ok headers) later = later headers
+and_lines (Ok draft) later = later draft
 
--- what header lines from a number on say, after those before; the first line with a fault decides
-abbrev pub header_lines : Table → ℕ → List (List ℕ) → Headers → Result Headers Reason
-header_lines table number [] headers = Ok headers
-header_lines table number (line ∷ lines) headers =
-    and_lines (with_line table number line headers)
-    (λ next. header_lines table (number + 1) lines next)
+-- What a query says with header lines from a number on, after those before. The first empty line
+-- ends them; before it the first line with a fault decides.
+abbrev pub header_lines : ℕ → List (List ℕ) → Draft → Result Draft Reason
+header_lines number [] draft = Ok draft
+header_lines number (line ∷ lines) draft =
+    if length line == 0 then Ok draft
+    else and_lines (with_line number line draft)
+    (λ next. header_lines (number + 1) lines next)

@@ -3,7 +3,6 @@ use Rattle.std.specs.Prelude.{◌≡◌, ◌≢◌, ℕ, zero, suc, ◌+◌, ◌
 use Rattle.std.specs.List.{concat, take_while}
 use Rattle.lq_text.specs.Blanks.{is_blank, without_front}
 use Rattle.lq_text.specs.Lines.{whole_lines, line_text}
-use Rattle.lq_request.specs.declared.cut.TheConstants.{MESSAGE_LIMIT}
 use Rattle.lq_request.specs.declared.extent.LineKind.{LineKind}
 use Rattle.lq_request.specs.declared.extent.LineKind.TheVariants as kind
 use Rattle.lq_request.specs.declared.extent.MessageKind.{MessageKind}
@@ -89,6 +88,10 @@ message_of bytes =
 
 -- ---- pieces
 
+-- the most bytes of a message, its end included
+abbrev pub message_limit : ℕ
+message_limit = 65536
+
 -- What stands first in the bytes of a connection.
 pub data Piece : Type 0 where
   Query : List ℕ → Piece
@@ -108,12 +111,12 @@ whole message.Nothing text = Empty
 abbrev pub piece_of : Bool → List ℕ → Message → Piece
 piece_of ended bytes first =
     if first.ended then whole first.kind first.text
-    else if nat_lt MESSAGE_LIMIT (length bytes) then TooLong (take MESSAGE_LIMIT bytes)
+    else if nat_lt message_limit (length bytes) then TooLong (take message_limit bytes)
     else if not ended then More
     else whole first.kind first.text
 
 unfoldable pub first_piece : Bool → List ℕ → Piece
-first_piece ended bytes = piece_of ended bytes (message_of (take MESSAGE_LIMIT bytes))
+first_piece ended bytes = piece_of ended bytes (message_of (take message_limit bytes))
 
 -- the bytes after a message; one without its end takes all
 abbrev pub behind : List ℕ → Message → List ℕ
@@ -121,9 +124,9 @@ behind bytes first = if first.ended then drop first.size bytes else []
 
 -- the bytes after the first piece; where more are wanted, all of them
 abbrev pub rest_behind : Piece → List ℕ → List ℕ
-rest_behind (Query text) bytes = behind bytes (message_of (take MESSAGE_LIMIT bytes))
-rest_behind (Command text) bytes = behind bytes (message_of (take MESSAGE_LIMIT bytes))
-rest_behind (TooLong front) bytes = drop MESSAGE_LIMIT bytes
+rest_behind (Query text) bytes = behind bytes (message_of (take message_limit bytes))
+rest_behind (Command text) bytes = behind bytes (message_of (take message_limit bytes))
+rest_behind (TooLong front) bytes = drop message_limit bytes
 rest_behind Empty bytes = []
 rest_behind More bytes = bytes
 
@@ -158,11 +161,11 @@ whole_messages bytes = messages_up_to false (length bytes) bytes
 abbrev pub needed_for : List ℕ → Message → ℕ
 needed_for input first =
     if first.ended then first.size
-    else if nat_lt MESSAGE_LIMIT (length input) then MESSAGE_LIMIT + 1
+    else if nat_lt message_limit (length input) then message_limit + 1
     else length input
 
 unfoldable pub needed : List ℕ → ℕ
-needed input = needed_for input (message_of (take MESSAGE_LIMIT input))
+needed input = needed_for input (message_of (take message_limit input))
 
 -- The piece is the first one of the input, however it goes on; after `ended` it doesn't go on.
 pub record IsFirst (piece : Piece) (ended : Bool) (held : List ℕ) : Type 0 where
@@ -176,7 +179,7 @@ pub record IsFirst (piece : Piece) (ended : Bool) (held : List ℕ) : Type 0 whe
 pub record IsNext (ended : Bool) (held : List ℕ) (piece : Piece) : Type 0 where
   pub is : piece ≡ first_piece ended held
   pub first : piece ≢ More → IsFirst piece ended held
-  pub more : piece ≡ More → (ended ≡ false) × (length held ≤ MESSAGE_LIMIT)
+  pub more : piece ≡ More → (ended ≡ false) × (length held ≤ message_limit)
 
 -- The message is the first one of the input, and of those that are known to be whole, before those
 -- of what is left, however the input goes on. Less is left than was held.
@@ -198,6 +201,6 @@ pub record IsLast (ended : Bool) (held : List ℕ) (piece : Piece) : Type 0 wher
 abbrev pub IsInOrder : Bool → List ℕ → Piece → List ℕ → Type 0
 IsInOrder ended held (Query text) left = IsCutOff ended held (Query text) left
 IsInOrder ended held (Command text) left = IsCutOff ended held (Command text) left
-IsInOrder ended held (TooLong front) left = IsLast ended held (TooLong (take MESSAGE_LIMIT held))
+IsInOrder ended held (TooLong front) left = IsLast ended held (TooLong (take message_limit held))
 IsInOrder ended held Empty left = messages held ≡ []
 IsInOrder ended held More left = whole_messages held ≡ []

@@ -1,17 +1,18 @@
 -- What a message asks, or why it is refused.
-use Rattle.std.specs.Prelude.{ℕ, Option, Some, None, is_none, unwrap_or, Result, Ok, Err, List, [], ◌∷◌, bytes_eq, codes, if◌then◌else◌}
+use Rattle.std.specs.Prelude.{ℕ, true, false, Option, Some, None, unwrap_or, Result, Ok, Err, List, [], ◌∷◌, bytes_eq, codes, if◌then◌else◌}
 use Rattle.std.specs.Str.{is_utf8}
 use Rattle.lq_text.specs.Lines.{lines_of}
 use Rattle.lq_text.specs.Blanks.{words_of}
 use Rattle.lq_schema.specs.Schema.{table_of, columns_of}
+use Rattle.lq_schema.specs.declared.columns.Col.{Col}
 use Rattle.lq_schema.specs.declared.columns.Table.{Table}
 use Rattle.lq_records.specs.declared.refusal.Refusal.{Refusal}
 use Rattle.lq_request.specs.declared.request.Request.{Request}
 use Rattle.lq_request.specs.declared.style.Style.{Style}
-use Rattle.lq_request.specs.declared.header.Headers.{Headers}
+use Rattle.lq_request.specs.declared.header.Draft.{Draft}
 use Rattle.lq_request.specs.declared.reason.Reason.{Reason}
 use Rattle.lq_request.specs.declared.reason.Reason.TheVariants as reason
-use Rattle.lq_request.specs.Headers.{header_lines, no_headers}
+use Rattle.lq_request.specs.Headers.{header_lines}
 use Rattle.lq_request.specs.Reasons.{refusal_of}
 use Rattle.lq_request.specs.Style.{style_of}
 
@@ -37,30 +38,47 @@ first_line line = if is_utf8 line then first_words (words_of line) else Err reas
 
 -- ---- a message
 
--- Where no header names columns, they are all, and a line of names is written unless a switch says
--- otherwise; where one does, it is written where a switch says so.
-abbrev pub request_of : Style → Table → Headers → Request
-request_of style table headers = record {
-  table = table;
-  columns = unwrap_or headers.columns (columns_of table);
-  head = unwrap_or headers.names (is_none headers.columns);
-  fixed16 = style.fixed16;
-  keep = style.keep;
+-- a query of a table without header lines
+abbrev pub plain : Style → Table → Draft
+plain style table = record {
+  request = record {
+    table = table;
+    columns = [];
+    head = false;
+    fixed16 = style.fixed16;
+    keep = style.keep;
+  };
+  names = None;
 }
 
-abbrev pub asked_table : Style → Table → Result Headers Reason → Result Request Reason
-asked_table style table (Err fault) = Err fault
-asked_table style table (Ok headers) = Ok (request_of style table headers)
+-- The columns that are shown where lines name some, and whether a line of names comes first. Where
+-- none is named, they are all, and the names are written unless a switch says otherwise; where one
+-- is, they are written where a switch says so.
+abbrev pub shown_columns : Draft → List Col → Request
+shown_columns draft [] = record draft.request {
+  columns = columns_of draft.request.table;
+  head = unwrap_or draft.names true;
+}
+shown_columns draft (column ∷ columns) = record draft.request {
+  head = unwrap_or draft.names false;
+}
 
-abbrev pub asked_headers :
-    Style → List (List ℕ) → Result Table Reason → Result Request Reason
-asked_headers style headers (Err fault) = Err fault
-asked_headers style headers (Ok table) =
-    asked_table style table (header_lines table 1 headers no_headers)
+-- the request of a query that is read whole
+abbrev pub finished : Draft → Request
+finished draft = shown_columns draft draft.request.columns
+
+abbrev pub asked_headers : Result Draft Reason → Result Request Reason
+asked_headers (Err fault) = Err fault
+asked_headers (Ok draft) = Ok (finished draft)
+
+abbrev pub asked_table : Style → List (List ℕ) → Result Table Reason → Result Request Reason
+asked_table style headers (Err fault) = Err fault
+asked_table style headers (Ok table) =
+    asked_headers (header_lines 1 headers (plain style table))
 
 abbrev pub asked_lines : Style → List (List ℕ) → Result Request Reason
 asked_lines style [] = Err reason.InvalidRequest
-asked_lines style (first ∷ headers) = asked_headers style headers (first_line first)
+asked_lines style (first ∷ headers) = asked_table style headers (first_line first)
 
 -- what a message asks, replied to in a style
 unfoldable pub asked_in : Style → List ℕ → Result Request Reason

@@ -1,8 +1,8 @@
 ghost use Rattle.std.specs.Prelude.{◌≡◌, ◌≢◌, ℕ, ◌+◌, ◌-◌, ◌<◌, ◌≤◌, List, [], ◌++◌, length, take, drop, false, vec_len, IfOk};
 ghost use Rattle.lq_request.specs.Cutting.{shown, Shows, taken_by};
 ghost use Rattle.lq_request.specs.Search.{IsKnown, IsSearched};
-ghost use Rattle.lq_request.specs.Messages.{IsInOrder, IsNext, rest_behind, whole};
-ghost use Rattle.lq_request.specs.declared.cut.TheConstants.{CAPACITY, MESSAGE_LIMIT};
+ghost use Rattle.lq_request.specs.Messages.{IsInOrder, IsNext, message_limit, rest_behind, whole};
+ghost use Rattle.lq_request.specs.declared.cut.TheConstants.{CAPACITY};
 
 use crate::extent::{Extent, MessageKind, Searched};
 use lq_records::Memory;
@@ -44,14 +44,15 @@ pub struct Cut {
 impl Model for Cut {
     ghost use Rattle.std.specs.Prelude.{◌≡◌, ◌-◌, ◌≤◌, ℕ, List, take, drop, vec_len};
     ghost use Rattle.lq_request.specs.Search.{IsKnown};
-    ghost use Rattle.lq_request.specs.declared.cut.TheConstants.{CAPACITY, MESSAGE_LIMIT};
+    ghost use Rattle.lq_request.specs.declared.cut.TheConstants.{CAPACITY};
+    ghost use Rattle.lq_request.specs.Messages.{message_limit};
 
     ghost Value = { List ℕ };
 
     ghost view = { λ cut. take (cut.end - cut.start) (drop cut.start cut.buffer.items) };
 
     ghost invariant = { λ cut. (cut.start ≤ cut.end) × (cut.end ≤ CAPACITY)
-        × (vec_len cut.buffer ≡ CAPACITY) × (cut.searched.next ≤ MESSAGE_LIMIT)
+        × (vec_len cut.buffer ≡ CAPACITY) × (cut.searched.next ≤ message_limit)
         × IsKnown cut.searched.text cut.searched.next cut.searched.seen
         (take (cut.end - cut.start) (drop cut.start cut.buffer.items)) };
 }
@@ -77,14 +78,14 @@ impl Cut {
 
     /// How many bytes may be fed.
     pub fn room(&self) -> usize
-        ensures { result + length self.now ≡ MESSAGE_LIMIT + 1 }
+        ensures { result + length self.now ≡ message_limit + 1 }
     {
         CAPACITY - (self.end - self.start)
     }
 
     /// Adds a piece of the connection's bytes.
     pub fn feed(&mut self, piece: &[u8])
-        requires { length self.old + length piece.now ≤ MESSAGE_LIMIT + 1 }
+        requires { length self.old + length piece.now ≤ message_limit + 1 }
         ensures { self.new ≡ self.old ++ piece.now }
     {
         let held = self.end - self.start;
@@ -161,11 +162,11 @@ impl Found {
 /// They are searched only where a line feed came, or where it is the last time.
 fn first_found(searched: &mut Searched, held: &[u8], ended: bool) -> Found
     requires searched { IsKnown searched.old.text searched.old.next searched.old.seen held.now }
-    requires limit { searched.old.next ≤ MESSAGE_LIMIT }
+    requires limit { searched.old.next ≤ message_limit }
     ensures shows { Shows ended held.now result }
     ensures searched { IsKnown searched.new.text searched.new.next searched.new.seen
         (drop (taken_by result) held.now) }
-    ensures limit { searched.new.next ≤ MESSAGE_LIMIT }
+    ensures limit { searched.new.next ≤ message_limit }
 {
     if ended || held.len() > MESSAGE_LIMIT {
         return find(searched, held, ended);
@@ -179,11 +180,11 @@ fn first_found(searched: &mut Searched, held: &[u8], ended: bool) -> Found
 /// The same by a search of what wasn't looked over.
 fn find(searched: &mut Searched, held: &[u8], ended: bool) -> Found
     requires searched { IsSearched searched.old.text searched.old.next held.now }
-    requires limit { searched.old.next ≤ MESSAGE_LIMIT }
+    requires limit { searched.old.next ≤ message_limit }
     ensures shows { Shows ended held.now result }
     ensures searched { IsKnown searched.new.text searched.new.next searched.new.seen
         (drop (taken_by result) held.now) }
-    ensures limit { searched.new.next ≤ MESSAGE_LIMIT }
+    ensures limit { searched.new.next ≤ message_limit }
 {
     let mut further = *searched;
     let extent = further.extent_of(window(held));
@@ -231,7 +232,7 @@ fn put(buffer: &mut [u8], at: usize, piece: &[u8])
 
 /// The bytes within which a message has to end.
 fn window(held: &[u8]) -> &[u8]
-    ensures { result.now ≡ take MESSAGE_LIMIT held.now }
+    ensures { result.now ≡ take message_limit held.now }
 {
     if held.len() > MESSAGE_LIMIT {
         &held[..MESSAGE_LIMIT]

@@ -1,14 +1,15 @@
-ghost use Rattle.std.specs.Prelude.{◌≡◌, ◌++◌, [], Some, OnOk, map, ok_or, position, unwrap_or};
+ghost use Rattle.std.specs.Prelude.{◌≡◌, ◌++◌, OnOk, map, ok_or, position};
 ghost use Rattle.std.specs.List.{AllByRecursion};
 ghost use Rattle.std.specs.Str.{IsUtf8};
 ghost use Rattle.lq_text.specs.Lines.{lines_of};
-ghost use Rattle.lq_request.specs.Headers.{columns_of_words, columns_value, header_lines, no_headers};
-ghost use Rattle.lq_request.specs.Headers.{switch, with_header, with_header_at, with_line};
+ghost use Rattle.lq_request.specs.Headers.{columns_of_words, columns_value, header_lines, switch};
+ghost use Rattle.lq_request.specs.Headers.{with_columns, with_header, with_header_at, with_line};
 ghost use Rattle.lq_request.specs.Reading.{Finds, Leaves};
 ghost use Rattle.lq_request.specs.Style.{is_colon};
 
 use crate::fault::Fault;
 use crate::reason::Reason;
+use crate::request::Request;
 use crate::style::{colon_place, switch_value};
 use crate::words::{as_text, is_text, words_of};
 use lq_records::{Items, Memory, Text};
@@ -19,23 +20,24 @@ use std::alloc::Global;
 /// The most header lines that a query may have. The next one is refused.
 pub const MOST_HEADERS: usize = 256;
 
-/// What the header lines say. Each field is None where no line speaks of it.
-#[derive(Default, Drop)]
-pub struct Headers {
-    /// The columns that they name, in order.
-    pub columns: Option<Items<Col>>,
-    /// Whether a line of the columns' names comes first.
+/// A query as far as it is read: the request that the lines so far ask, of which `columns` are the
+/// ones that they name, and what they say of the line of names.
+#[derive(Drop)]
+pub struct Draft {
+    /// The request. Its field `head` says nothing yet.
+    pub request: Request,
+    /// Whether a line of the columns' names comes first, None where no line speaks of it.
     pub names: Option<bool>,
 }
 
-impl Headers {
+impl Draft {
     /// Adds what one more header says. `KeepAlive` leaves all as it was: the style speaks of it.
     #[tactic(auto, unfolding(crate::specs::Headers::with_header))]
-    fn add(&mut self, alloc: Global, table: Table, name: &str, value: &str) -> Result<(), Fault>
-        ensures { Leaves result self.new (with_header table name.now value.now self.old) }
+    fn add(&mut self, alloc: Global, name: &str, value: &str) -> Result<(), Fault>
+        ensures { Leaves result self.new (with_header name.now value.now self.old) }
     {
         match name {
-            "Columns" => self.add_columns(columns_value(alloc, table, name, value)?)?,
+            "Columns" => self.add_columns(alloc, name, value)?,
             "ColumnHeaders" => self.names = Some(switch(alloc, name, value)?),
             "KeepAlive" => {
                 switch(alloc, name, value)?;
@@ -45,28 +47,18 @@ impl Headers {
         Ok(())
     }
 
-    fn add_columns(&mut self, more: Items<Col>) -> Result<(), Memory>
-        ensures { OnOk result (self.new
-            ≡ record self.old { columns = Some (unwrap_or self.old.columns [] ++ more) }) }
+    /// Adds the columns that a value names.
+    fn add_columns(&mut self, alloc: Global, name: &str, value: &str) -> Result<(), Fault>
+        ensures { Leaves result self.new (with_columns name.now value.now self.old) }
     {
-        match &mut self.columns {
-            Some(columns) => push_all(columns, more.as_slice()),
-            None => {
-                self.columns = Some(more);
-                Ok(())
-            }
-        }
+        let more = columns_value(alloc, self.request.table, name, value)?;
+        push_all(&mut self.request.columns, more.as_slice())?;
+        Ok(())
     }
 
     /// Adds the header of a line, by the line's number from 1.
-    fn add_line(
-        &mut self,
-        alloc: Global,
-        table: Table,
-        number: usize,
-        line: &[u8],
-    ) -> Result<(), Fault>
-        ensures { Leaves result self.new (with_line table number line.now self.old) }
+    fn add_line(&mut self, alloc: Global, number: usize, line: &[u8]) -> Result<(), Fault>
+        ensures { Leaves result self.new (with_line number line.now self.old) }
     {
         if !is_text(line) {
             return Err(Fault::Refused(Reason::NotUtf8));
@@ -74,21 +66,21 @@ impl Headers {
         if number > MOST_HEADERS {
             return Err(Fault::Refused(Reason::TooManyHeaders));
         }
-        self.add_parts(alloc, table, line)
+        self.add_parts(alloc, line)
     }
 
     /// Adds the header of a line, whose name goes up to its first colon.
-    fn add_parts(&mut self, alloc: Global, table: Table, line: &[u8]) -> Result<(), Fault>
+    fn add_parts(&mut self, alloc: Global, line: &[u8]) -> Result<(), Fault>
         requires { IsUtf8 line.now }
         ensures { Leaves result self.new
-            (with_header_at table line.now (position is_colon line.now) self.old) }
+            (with_header_at line.now (position is_colon line.now) self.old) }
     {
         let Some(colon) = colon_place(line) else {
             return Err(Fault::Refused(Reason::NoColon));
         };
         let name = as_text(&line[..colon]);
         let value = as_text(&line[colon + 1..]);
-        self.add(alloc, table, name, value)
+        self.add(alloc, name, value)
     }
 }
 
@@ -101,19 +93,24 @@ fn push_all(columns: &mut Items<Col>, more: &[Col]) -> Result<(), Memory>
     Ok(())
 }
 
-/// What all header lines say, or the reason of the first line with a fault.
-pub fn header_lines(alloc: Global, table: Table, bytes: &[u8]) -> Result<Headers, Fault>
-    ensures { Finds result (header_lines table 1 (lines_of bytes.now) no_headers) }
+/// What header lines say beside a draft, up to the first empty one, or the reason of the first line
+/// with a fault.
+pub fn header_lines(alloc: Global, draft: Draft, bytes: &[u8]) -> Result<Draft, Fault>
+    ensures { Finds result (header_lines 1 (lines_of bytes.now) draft) }
 {
-    let mut headers = Headers::default();
+    let mut draft = draft;
     let mut number = 0;
     let mut at = 0;
     'lines: while let Some((end, next)) = next_line(bytes, at) {
+        let line = &bytes[at..end];
+        if line.is_empty() {
+            break;
+        }
         number += 1;
-        headers.add_line(alloc, table, number, &bytes[at..end])?;
+        draft.add_line(alloc, number, line)?;
         at = next;
     }
-    Ok(headers)
+    Ok(draft)
 }
 
 /// What the value of a switch says.

@@ -1,13 +1,13 @@
-ghost use Rattle.std.specs.Prelude.{◌≡◌, IfOk, map, unwrap_or};
+ghost use Rattle.std.specs.Prelude.{◌≡◌, IfOk, map};
 ghost use Rattle.std.specs.List.{AllByRecursion};
 ghost use Rattle.std.specs.Str.{IsUtf8};
 ghost use Rattle.lq_schema.specs.Schema.{columns_of};
-ghost use Rattle.lq_text.specs.Lines.{lines_of};
 ghost use Rattle.lq_request.specs.Reading.{Finds, Reads};
-ghost use Rattle.lq_request.specs.Request.{asked, asked_in, first_line, request_of, table_of_words};
+ghost use Rattle.lq_request.specs.Request.{asked, asked_in, finished, first_line, plain};
+ghost use Rattle.lq_request.specs.Request.{table_of_words};
 
 use crate::fault::Fault;
-use crate::header::{Headers, header_lines};
+use crate::header::{Draft, header_lines};
 use crate::reason::Reason;
 use crate::style::{Style, reply_style};
 use crate::words::{as_text, is_text, words_of};
@@ -47,6 +47,7 @@ pub enum ReadErr {
 }
 
 /// What a message asks of a base, or its refusal: the message as `next_message` of `Cut` gives it.
+/// It is read up to its first empty line.
 ///
 /// The first line decides first: 400 `not UTF-8`; 452 `invalid request` where its first word isn't
 /// `GET`; 451 `missing table name`; 404 `unknown table: <word>`; 400 `extra words after the table
@@ -83,8 +84,24 @@ fn asked_in(alloc: Global, style: Style, message: &[u8]) -> Result<Request, Faul
         return Err(Fault::Refused(Reason::InvalidRequest));
     };
     let table = first_line(alloc, &message[..end])?;
-    let headers = header_lines(alloc, table, &message[next..])?;
-    Ok(request_of(alloc, style, table, headers)?)
+    let draft = header_lines(alloc, plain(alloc, style, table), &message[next..])?;
+    Ok(finished(alloc, draft)?)
+}
+
+/// A query of a table without header lines.
+fn plain(alloc: Global, style: Style, table: Table) -> Draft
+    ensures { result ≡ plain style table }
+{
+    Draft {
+        request: Request {
+            table,
+            columns: Items::new(alloc),
+            head: false,
+            fixed16: style.fixed16,
+            keep: style.keep,
+        },
+        names: None,
+    }
 }
 
 /// The table that a message's first line asks.
@@ -122,38 +139,17 @@ fn table_of_words(alloc: Global, words: &[&[u8]]) -> Result<Table, Fault>
     }
 }
 
-/// What the headers ask of a table.
-fn request_of(
-    alloc: Global,
-    style: Style,
-    table: Table,
-    headers: Headers,
-) -> Result<Request, Memory>
-    ensures { IfOk result (λ request. request ≡ request_of style table headers) }
+/// The request of a query that is read whole.
+fn finished(alloc: Global, draft: Draft) -> Result<Request, Memory>
+    ensures { IfOk result (λ request. request ≡ finished draft) }
 {
-    let head = headers.names.unwrap_or(headers.columns.is_none());
-    let columns = chosen_columns(alloc, table, headers.columns)?;
-    Ok(Request {
-        table,
-        columns,
-        head,
-        fixed16: style.fixed16,
-        keep: style.keep,
-    })
-}
-
-/// The columns that are named, or all where no header names any.
-fn chosen_columns(
-    alloc: Global,
-    table: Table,
-    named: Option<Items<Col>>,
-) -> Result<Items<Col>, Memory>
-    ensures { IfOk result (λ columns. columns ≡ unwrap_or named (columns_of table)) }
-{
-    match named {
-        Some(columns) => Ok(columns),
-        None => all_columns(alloc, table),
+    let mut request = draft.request;
+    let shows_all = request.columns.is_empty();
+    request.head = draft.names.unwrap_or(shows_all);
+    if shows_all {
+        request.columns = all_columns(alloc, request.table)?;
     }
+    Ok(request)
 }
 
 fn all_columns(alloc: Global, table: Table) -> Result<Items<Col>, Memory>
