@@ -9,7 +9,6 @@ use Rattle.lq_tables.specs.declared.row.Row.{Row}
 use Rattle.lq_request.specs.declared.request.Request.{Request}
 use Rattle.lq_query.specs.Csv.{cell_text, csv}
 use Rattle.lq_query.specs.declared.reply.Reply.{Reply}
-use Rattle.lq_query.specs.declared.reply.TheConstants.{REPLY_LIMIT}
 
 -- ---- lines
 
@@ -32,10 +31,14 @@ lines_of request s =
 
 -- ---- text
 
+-- the most bytes of a body
+abbrev pub reply_limit : ℕ
+reply_limit = 8388608
+
 -- a body that is too large is replaced by the refusal 413; any other has the code 200
 abbrev pub limited : List ℕ → Reply
 limited body =
-    if nat_lt REPLY_LIMIT (length body) then record { code = 413; bytes = [] }
+    if nat_lt reply_limit (length body) then record { code = 413; bytes = [] }
     else record { code = 200; bytes = body }
 
 abbrev pub answer_of : Request → State → Reply

@@ -5,10 +5,10 @@ use Rattle.lq_schema.specs.Names.{full_name}
 use Rattle.lq_schema.specs.declared.columns.Col.{Col}
 use Rattle.lq_live.specs.State.{State}
 use Rattle.lq_tables.specs.Cells.{cell_of}
+use Rattle.lq_query.specs.Answer.{reply_limit}
 use Rattle.lq_query.specs.Csv.{cell_text}
 use Rattle.lq_query.specs.declared.page.Line.{Line}
 use Rattle.lq_query.specs.declared.page.Line.TheVariants as line
-use Rattle.lq_query.specs.declared.reply.TheConstants.{REPLY_LIMIT}
 
 -- the text of a line's cell, and those of all its cells
 abbrev pub text_of : State → Line → Col → List ℕ
@@ -20,10 +20,10 @@ texts_of s line columns = map (text_of s line) columns
 
 -- a body is there where it isn't too large
 abbrev pub IsBody : Option (Vec ℕ) → List ℕ → Type 0
-IsBody (Some body) whole = (body.items ≡ whole) × (length whole ≤ REPLY_LIMIT)
-IsBody None whole = REPLY_LIMIT < length whole
+IsBody (Some body) whole = (body.items ≡ whole) × (length whole ≤ reply_limit)
+IsBody None whole = reply_limit < length whole
 
 -- the text was added where the body isn't too large with it
 abbrev pub AddsText : Bool → List ℕ → List ℕ → List ℕ → Type 0
-AddsText true old new text = (new ≡ old ++ text) × (length new ≤ REPLY_LIMIT)
-AddsText false old new text = REPLY_LIMIT < length (old ++ text)
+AddsText true old new text = (new ≡ old ++ text) × (length new ≤ reply_limit)
+AddsText false old new text = reply_limit < length (old ++ text)

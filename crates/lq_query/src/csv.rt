@@ -23,7 +23,39 @@ pub fn push_value(out: &mut Vec<u8>, value: &Val<'_>) -> Result<(), Memory>
 }
 
 /// Adds the digits of a number, after a `-` where it is below 0. It takes no memory but the body's.
+#[inline]
 pub fn push_number(out: &mut Vec<u8>, number: i128) -> Result<(), Memory>
+    ensures { OnOk result (out.new.items ≡ out.old.items ++ signed_decimal number) }
+{
+    match u64::try_from(number) {
+        Ok(number) => push_unsigned(out, number),
+        Err(_) => push_wide(out, number),
+    }
+}
+
+/// Adds the digits of a number that isn't below 0. Most numbers of a state have one digit alone,
+/// which takes no buffer.
+#[inline]
+fn push_unsigned(out: &mut Vec<u8>, number: u64) -> Result<(), Memory>
+    ensures { OnOk result (out.new.items ≡ out.old.items ++ decimal number) }
+{
+    if number < 10 {
+        Ok(out.push(b'0' + number as u8)?)
+    } else {
+        push_digits(out, number)
+    }
+}
+
+#[inline(never)]
+fn push_digits(out: &mut Vec<u8>, number: u64) -> Result<(), Memory>
+    ensures { OnOk result (out.new.items ≡ out.old.items ++ decimal number) }
+{
+    let mut digits = Buffer::new();
+    out.extend_from_slice(digits.format(number).as_bytes())
+}
+
+#[inline(never)]
+fn push_wide(out: &mut Vec<u8>, number: i128) -> Result<(), Memory>
     ensures { OnOk result (out.new.items ≡ out.old.items ++ signed_decimal number) }
 {
     let mut digits = Buffer::new();
@@ -50,23 +82,16 @@ fn push_texts(out: &mut Vec<u8>, texts: &[Text]) -> Result<(), Memory>
     Ok(())
 }
 
-fn push_id(out: &mut Vec<u8>, id: u64) -> Result<(), Memory>
-    ensures { OnOk result (out.new.items ≡ out.old.items ++ decimal id) }
-{
-    let mut digits = Buffer::new();
-    out.extend_from_slice(digits.format(id).as_bytes())
-}
-
 fn push_ids(out: &mut Vec<u8>, ids: &[u64]) -> Result<(), Memory>
     ensures { OnOk result (out.new.items ≡ out.old.items ++ joined 44 (map decimal ids.now)) }
 {
     let Some((first, later)) = ids.split_first() else {
         return Ok(());
     };
-    push_id(out, *first)?;
+    push_unsigned(out, *first)?;
     for id in later {
         out.push(b',')?;
-        push_id(out, *id)?;
+        push_unsigned(out, *id)?;
     }
     Ok(())
 }

@@ -2,10 +2,9 @@ ghost use Rattle.std.specs.Prelude.{◌≡◌, ◌++◌, ◌≤◌, length, map,
 ghost use Rattle.lq_schema.specs.Names.{full_name};
 ghost use Rattle.lq_tables.specs.Cells.{cell_of};
 ghost use Rattle.lq_tables.specs.Rows.{rows_of};
-ghost use Rattle.lq_query.specs.Answer.{line_of, with_names};
+ghost use Rattle.lq_query.specs.Answer.{line_of, reply_limit, with_names};
 ghost use Rattle.lq_query.specs.Body.{AddsText, IsBody, text_of, texts_of};
 ghost use Rattle.lq_query.specs.Csv.{cell_text, csv, csv_line};
-ghost use Rattle.lq_query.specs.declared.reply.TheConstants.{REPLY_LIMIT};
 
 use crate::column::ShownColumn;
 use crate::csv::{push_number, push_value};
@@ -60,7 +59,7 @@ impl Page<'_> {
 
     /// Adds the lines of rows. False where the body is too large with them.
     pub fn push_rows(self, body: &mut Vec<u8>, rows: &[Row]) -> Result<bool, Memory>
-        requires { length body.old.items ≤ REPLY_LIMIT }
+        requires { length body.old.items ≤ reply_limit }
         ensures { IfOk result (λ fits. AddsText fits body.old.items body.new.items
             (csv (map (line_of self.entry.live.now.state self.entry.columns.now) rows.now))) }
     {

@@ -569,7 +569,7 @@ const MOVED_ON: &[Step<'static>] = &[
 /// The present second moves on to the largest one of a command.
 fn assert_last_second<R: Abort + AllocGlobal>(rt: &R, site: &mut Site) -> Result<(), Fail> {
     for second in [1_000_000_000_000, u64::MAX] {
-        site.apply(second, Text::empty(rt.alloc()), Act::Unknown)?;
+        site.apply(second, Text::empty(), Act::Unknown)?;
         assert!(rt; site.live.now() == 999_999_999_999);
     }
     Ok(())
@@ -626,15 +626,15 @@ fn apply_codes(alloc: Global, site: &mut Site) -> Result<(), AllocError> {
     let act = Act::ProcessHostCheckResult {
         host: HostId(0),
         code: 3,
-        output: Text::empty(alloc),
+        output: Text::empty(),
     };
-    site.apply(117, Text::empty(alloc), act)?;
+    site.apply(117, Text::empty(), act)?;
     let act = Act::ProcessServiceCheckResult {
         service: ServiceId(0),
         code: 4,
-        output: Text::empty(alloc),
+        output: Text::empty(),
     };
-    site.apply(118, Text::empty(alloc), act)
+    site.apply(118, Text::empty(), act)
 }
 
 fn assert_without_effect<R: Abort + AllocGlobal>(rt: &R, site: &mut Site) -> Result<(), Fail> {

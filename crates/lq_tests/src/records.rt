@@ -8,13 +8,15 @@ use std::test::Fail;
 
 const TEXTS: &[&str] = &["", "a", "web1", "Größe 5", "a\0b", " \t"];
 
-/// Whether a copy of a text and one that takes its string are the text, and give it back.
+/// Whether a copy of a text, one of its string and a clone are the text, the clone also after what
+/// it was made from is gone.
 fn is_kept(alloc: Global, text: &str) -> Result<bool, AllocError> {
     let copy = Text::new(alloc, text)?;
-    let taken = Text::from_string(String::from_str(alloc, text)?);
-    let is_same = copy == taken && copy.as_str() == text && taken.as_str() == text;
-    let (copy, taken) = (copy.into_string(), taken.into_string());
-    Ok(is_same && copy.as_str() == text && taken.as_str() == text)
+    let of_string = Text::from_string(String::from_str(alloc, text)?)?;
+    let is_same = copy == of_string && copy.as_str() == text && of_string.as_str() == text;
+    let shared = copy.clone()?;
+    drop(copy);
+    Ok(is_same && shared == of_string && shared.as_str() == text)
 }
 
 const EQUAL: &[(&str, &str, bool)] = &[
@@ -183,7 +185,7 @@ fn names(alloc: Global) -> Result<NameIndex, AllocError> {
 fn assert_found<R: Abort + AllocGlobal>(rt: &R, index: &NameIndex) -> Result<(), Fail> {
     assert!(rt; index.len() == 3);
     assert!(rt; index.find(&named(rt.alloc(), "b", "a")?) == Some(1));
-    let single = Name::single(rt.alloc(), Text::new(rt.alloc(), "a")?);
+    let single = Name::single(Text::new(rt.alloc(), "a")?);
     assert!(rt; index.find(&single) == Some(2));
     drop(single);
     assert!(rt; index.find(&named(rt.alloc(), "b", "")?).is_none());

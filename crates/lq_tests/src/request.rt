@@ -348,6 +348,9 @@ const COLUMNS: &[(&[u8], &str)] = &[
         "hosts state name state",
     ),
     (b"\t GET\thosts \nColumns:\t\tname \t", "hosts name"),
+    (b"GET commands\nColumns: name\n\n", "commands name"),
+    (b"GET commands\nColumns: name\r\n\r\nFOO", "commands name"),
+    (b"GET commands\n\nColumns: name", "commands+names name line"),
     (b"GET hosts\nColumns: name\tname", "hosts name name"),
     (
         b"GET services\nColumns: host_name description state",

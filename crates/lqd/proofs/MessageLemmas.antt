@@ -3,9 +3,8 @@ use Rattle.std.proofs.Common.{◌≡◌, ◌≢◌, ℕ, Bool, true, false, List
 use Rattle.std.specs.Prelude.{Option, not}
 use Rattle.std.specs.Io.KnownBytes.{Appends}
 use Rattle.std.proofs.KnownBytes.{Appends-nil}
-use Rattle.lq_request.specs.Messages.{Message, Piece, Query, Command, TooLong, Empty, More, messages, whole_messages, first_piece, message_of, message_at, whole, command_from, query_from, IsCutOff, IsLast}
+use Rattle.lq_request.specs.Messages.{message_limit, Message, Piece, Query, Command, TooLong, Empty, More, messages, whole_messages, first_piece, message_of, message_at, whole, command_from, query_from, IsCutOff, IsLast}
 use Rattle.lq_request.specs.Request.{asked}
-use Rattle.lq_request.specs.declared.cut.TheConstants.{MESSAGE_LIMIT}
 use Rattle.lqd.specs.Replies.{keeps, reply_to}
 use Rattle.lqd.specs.Session.{Standing, ComesFirst, Serves, ServesLast, FindsNone, Breaks, BreaksReply, behind}
 use Rattle.lqd.specs.declared.session.ServeErr.{ServeErr}
@@ -56,10 +55,10 @@ command_served ended held left text old new out cut state = record {
   written = Appends-nil out;
 }
 
-pub too_long_served : (ended : Bool) (held : List ℕ) (old : Standing) (out : Option (List ℕ)) → IsLast ended held (TooLong (take MESSAGE_LIMIT held))
+pub too_long_served : (ended : Bool) (held : List ℕ) (old : Standing) (out : Option (List ℕ)) → IsLast ended held (TooLong (take message_limit held))
     → ServesLast ended held old out out
 too_long_served ended held old out is = record {
-  piece = TooLong (take MESSAGE_LIMIT held);
+  piece = TooLong (take message_limit held);
   first = record {
     all = λ rest closed. ([], is.all rest closed);
     known = λ rest more. ([], is.known rest more);
@@ -95,8 +94,8 @@ empty_ended : (ended : Bool) (held : List ℕ) → Empty ≡ first_piece ended h
 unfolding first_piece
 empty_ended true held empty = refl
 empty_ended false held empty =
-    let first : Message = message_of (take MESSAGE_LIMIT held) in
-    absurd (next_some first.ended (nat_lt MESSAGE_LIMIT (length held)) (take MESSAGE_LIMIT held) (whole first.kind first.text) (of_some (take MESSAGE_LIMIT held)) empty)
+    let first : Message = message_of (take message_limit held) in
+    absurd (next_some first.ended (nat_lt message_limit (length held)) (take message_limit held) (whole first.kind first.text) (of_some (take message_limit held)) empty)
 
 pub none_found : (ended : Bool) (held : List ℕ) (out : Option (List ℕ)) → Empty ≡ first_piece ended held → messages held ≡ [] → FindsNone ended held out out
 none_found ended held out is none = record { end = empty_ended ended held is; none = none; written = Appends-nil out }

@@ -6,7 +6,6 @@ use Rattle.lq_records.specs.declared.base.Rules.{Rules}
 use Rattle.lq_objects.specs.Objects.{base_of}
 use Rattle.lq_objects.specs.Reading.{what_text}
 use Rattle.lq_objects.specs.declared.fault.Fault.{Fault}
-use Rattle.lqd.specs.declared.fault.TheConstants.{OBJECTS_LIMIT}
 use Rattle.lqd.specs.declared.fault.ObjectsFault.{ObjectsFault}
 use Rattle.lqd.specs.declared.fault.ObjectsFault.TheVariants.{At, TooLarge}
 use Rattle.lqd.specs.declared.fault.Fault.{Fault as End}
@@ -18,10 +17,14 @@ abbrev pub fault_of_base : Result Base Fault → Option ObjectsFault
 fault_of_base (Ok base) = None
 fault_of_base (Err fault) = Some (At fault.line fault.what)
 
+-- the most bytes of an object file
+abbrev pub objects_limit : ℕ
+objects_limit = 67108864
+
 -- the fault of an object file, where it has one
 unfoldable pub objects_fault : List ℕ → Rules → Option ObjectsFault
 objects_fault bytes rules =
-    if nat_lt OBJECTS_LIMIT (length bytes) then Some TooLarge
+    if nat_lt objects_limit (length bytes) then Some TooLarge
     else fault_of_base (base_of bytes rules)
 
 -- ---- statuses

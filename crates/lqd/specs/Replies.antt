@@ -11,7 +11,6 @@ use Rattle.lq_request.specs.Messages.{Piece, Query, Command, TooLong, Empty, Mor
 use Rattle.lq_request.specs.Request.{Refused, asked}
 use Rattle.lq_request.specs.declared.request.Request.{Request}
 use Rattle.lq_query.specs.Answer.{answer_of}
-use Rattle.lqd.specs.declared.session.TheConstants.{MOST_MESSAGES}
 
 -- ---- one message
 
@@ -75,9 +74,13 @@ replies_from names at (piece ∷ later) =
 abbrev pub opening : State → Counted
 opening s = record { state = s; count = 0 }
 
+-- the most messages that a connection is served
+abbrev pub most_messages : ℕ
+most_messages = 10000
+
 -- the bytes that are written for messages, of which the first 10,000 are served
 unfoldable pub replies_to : State → List Piece → List ℕ
-replies_to s pieces = replies_from (names_of s.base) (opening s) (take MOST_MESSAGES pieces)
+replies_to s pieces = replies_from (names_of s.base) (opening s) (take most_messages pieces)
 
 -- the bytes that are written for a whole input
 abbrev pub replies : State → List ℕ → List ℕ
@@ -85,4 +88,4 @@ replies s input = replies_to s (messages input)
 
 -- whether the connection ends within messages: one is its last, or there are 10,000
 unfoldable pub is_over : List Piece → Bool
-is_over pieces = nat_le MOST_MESSAGES (length pieces) || list_any is_last pieces
+is_over pieces = nat_le most_messages (length pieces) || list_any is_last pieces

@@ -4,6 +4,7 @@ use Rattle.std.specs.Io.KnownBytes.{Appends}
 use Rattle.lq_outside.specs.Faults.{Rose}
 use Rattle.lq_records.specs.declared.base.Base.{Base}
 use Rattle.lq_records.specs.declared.base.Rules.{Rules}
+use Rattle.lq_records.specs.Sound.{IsSound}
 use Rattle.lq_objects.specs.Objects.{base_of}
 use Rattle.lqd.specs.Faults.{objects_fault, objects_text, usage_text, missing_text, unreadable_text, read_text, write_text, memory_text}
 use Rattle.lqd.specs.declared.fault.ObjectsFault.{ObjectsFault}
@@ -34,11 +35,14 @@ MustRefuse status file =
     IfSome file (λ there. IsSomeAnd there (λ bytes. IsSome (objects_fault bytes default_rules))
     → (status ≡ 2) ⊎ (status ≡ 4) ⊎ (status ≡ 7))
 
--- where the file is told, it says a base, of which the fact holds
+-- what a file that is told says of the base
+abbrev pub SaysBase : Option (Option (List ℕ)) → Base → Type 0
+SaysBase file base = IfSome file (λ there. IsSomeAnd there (λ bytes.
+    (objects_fault bytes default_rules ≡ None) × (base_of bytes default_rules ≡ Ok base)))
+
+-- there is a sound base of which the fact holds, and where the file is told, it says that base
 abbrev pub OnBase : Option (Option (List ℕ)) → (Base → Type 0) → Type 0
-OnBase file P = IfSome file (λ there. IsSomeAnd there (λ bytes.
-    (base : Base) × (objects_fault bytes default_rules ≡ None)
-    × (base_of bytes default_rules ≡ Ok base) × P base))
+OnBase file P = (base : Base) × IsSound base × SaysBase file base × P base
 
 -- ---- the text of an end
 

@@ -4,8 +4,7 @@ use Rattle.std.specs.Io.KnownBytes.{Appends, Consumes, IsAtEnd}
 use Rattle.lq_outside.specs.Sinks.{AppendsFront}
 use Rattle.lq_commands.specs.Names.{KnownNames, names_of}
 use Rattle.lq_live.specs.State.{State, Counted}
-use Rattle.lq_request.specs.Messages.{Piece, messages, whole_messages, IsCutOff}
-use Rattle.lq_request.specs.declared.cut.TheConstants.{MESSAGE_LIMIT}
+use Rattle.lq_request.specs.Messages.{message_limit, Piece, messages, whole_messages, IsCutOff}
 use Rattle.lqd.specs.Reading.{ReadsPart, ReadsSome, RepliesToFirst, RepliesToPart, RepliesToRead}
 use Rattle.lqd.specs.Replies.{after_piece, is_last, opening, replies, reply_to_piece}
 use Rattle.lqd.specs.declared.session.Next.{Next}
@@ -37,7 +36,7 @@ pub record Fills (ended : Bool) (left_old left_new : Option (List ℕ))
   pub held : new ≡ old ++ bytes
   pub at_end : ended ≡ true → IsAtEnd left_new
   pub more : ended ≡ false → length old < length new
-  pub small : length new ≤ MESSAGE_LIMIT + 1
+  pub small : length new ≤ message_limit + 1
 
 -- ---- one message
 
@@ -77,7 +76,7 @@ pub record WantsMore (ended : Bool) (held left : List ℕ) (old new : Standing)
   pub end : ended ≡ false
   pub none : whole_messages held ≡ []
   pub same : left ≡ held
-  pub small : length held ≤ MESSAGE_LIMIT
+  pub small : length held ≤ message_limit
   pub state : new ≡ old
   pub written : Appends out_old out []
 

@@ -57,6 +57,7 @@ pub fn run<R, F: Files, S: Source, K: Sink>(
     // What was read and written at each status.
     ensures untouched { (result ≡ 1) ⊎ (result ≡ 2) ⊎ (result ≡ 4)
         → (input.new ≡ input.old) × (output.new ≡ output.old) }
+    ensures no_file { result ≡ 1 → files.new ≡ files.old }
     ensures read { result ≡ 0 → ReadsAll (S.left input.old) (S.left input.new) }
     ensures written { result ≡ 0
         → OnFile (asked_path (map string_bytes words.now)) (F.held_at files.old)

@@ -5,9 +5,8 @@ ghost use Rattle.lq_outside.specs.Sinks.{AppendsFront};
 ghost use Rattle.lq_records.specs.Sound.{IsSound};
 ghost use Rattle.lq_commands.specs.Names.{names_of};
 ghost use Rattle.lq_live.specs.State.{opened};
-ghost use Rattle.lq_request.specs.Messages.{Command, Query};
+ghost use Rattle.lq_request.specs.Messages.{Command, Query, message_limit};
 ghost use Rattle.lq_request.specs.Request.{asked};
-ghost use Rattle.lq_request.specs.declared.cut.TheConstants.{MESSAGE_LIMIT};
 ghost use Rattle.lqd.specs.Reading.{ReadsAll};
 ghost use Rattle.lqd.specs.Replies.{keeps, opening, replies, reply_to, update_of};
 ghost use Rattle.lqd.specs.Session.{Breaks, BreaksReply, Does, Fills, Stops, behind, first_standing};
@@ -143,7 +142,7 @@ fn new_piece(alloc: Global) -> Result<Vec<u8>, Memory>
 
 /// Reads once after what is held, and says whether the input has ended.
 fn fill<S: Source>(input: &mut S, cut: &mut Cut, piece: &mut [u8]) -> Result<bool, ServeErr>
-    requires room { length cut.old ≤ MESSAGE_LIMIT }
+    requires room { length cut.old ≤ message_limit }
     requires some { 0 < length piece.old }
     ensures ok { IfOk result
         (λ ended. Fills ended (S.left input.old) (S.left input.new) cut.old cut.new) }

@@ -8,4 +8,4 @@ pub push-requires : goal.push-requires
 push-requires c =
     is_new host_name c.args.hosts.now c.loop-host.host-index c.host-item.result c.loop-host.names c.single-name.result
     c.requires c.loop-host-test.true c.host-item.is c.loop-host.invariant
-    (c.single-name.ensures ∙ ap single (c.in_ok-new.ensures {u = tt} ∙ c.as_str.ensures))
+    (c.single-name.ensures ∙ ap single (c.in_ok-clone.ensures {u = tt}).cases)

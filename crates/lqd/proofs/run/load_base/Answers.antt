@@ -12,7 +12,7 @@ returns-in-Ok-read_objects-clause-ok g c =
     let loads = c.in-Ok.ensures.loads in
     let read : base_of c.in-Ok.bytes.items default_rules ≡ Ok c.in-Ok-read_objects.base =
     ap (λ bytes. base_of bytes default_rules) (sym c.deref.ensures.value) ∙ ap (base_of _) (sym c.default.ensures) ∙ c.in-Ok-read_objects.ensures.reads in
-    loaded_base _ c.in-Ok.bytes.items _ loads.0 loads.1 read
+    loaded_base _ c.in-Ok.bytes.items _ c.in-Ok-read_objects.ensures.sound loads.0 loads.1 read
 
 pub returns-in-Err-At-clause-err : goal.returns-in-Err-At-clause-err
 returns-in-Err-At-clause-err g c =

@@ -1,7 +1,6 @@
 use Rattle.std.proofs.Common.{◌≡◌, ◌≤◌, ◌++◌, length, drop, map}
-use Rattle.lq_query.specs.Answer.{line_of}
+use Rattle.lq_query.specs.Answer.{line_of, reply_limit}
 use Rattle.lq_query.specs.Csv.{csv}
-use Rattle.lq_query.specs.declared.reply.TheConstants.{REPLY_LIMIT}
 use Rattle.lq_query.proofs.page.Page.push_rows.Given as goal
 
 abbrev pub invariant-loop-row : goal.invariant-loop-row
@@ -10,5 +9,5 @@ invariant-loop-row l = record {
       l.body.items
       ++ csv (map (line_of l.self.live.now.state l.self.columns.now) (drop l.row-index l.rows))
       ≡ l.fn.body.items ++ csv (map (line_of l.self.live.now.state l.self.columns.now) l.rows);
-  small : length l.body.items ≤ REPLY_LIMIT;
+  small : length l.body.items ≤ reply_limit;
 }
