@@ -208,14 +208,19 @@ long_first closed bytes more is long =
     let longer : message_limit < length (bytes ++ more) = omega (arith, length-append bytes more) in
     ap (λ w. piece_of closed (bytes ++ more) (message_of w)) front ∙ piece_long closed (bytes ++ more) (window_message bytes) is longer ∙ ap TooLong front
 
-last_one : (ended : Bool) (held front : List ℕ) → TooLong front ≡ first_piece ended held → IsLast ended held (TooLong (take message_limit held))
+last_one : (ended : Bool) (held front : List ℕ) → TooLong front ≡ first_piece ended held
+    → (front ≡ take message_limit held) × IsLast ended held (TooLong front)
 unfolding messages whole_messages first_piece
 last_one ended held front is =
     let long = long_cases ended held front (window_message held) (sym is) in
-    record {
-      all = λ more _. first_other true (held ++ more) _ (long_first true held more long.0 long.1);
-      known = λ more _. first_other false (held ++ more) _ (long_first false held more long.0 long.1);
-    }
+    let shown : TooLong front ≡ TooLong (take message_limit held) = is ∙ piece_long ended held (window_message held) long.0 long.1 in
+    let same : front ≡ take message_limit held = cc in (
+      same,
+      subst (λ shown. IsLast ended held (TooLong shown)) (sym same) (record {
+        all = λ more _. first_other true (held ++ more) _ (long_first true held more long.0 long.1);
+        known = λ more _. first_other false (held ++ more) _ (long_first false held more long.0 long.1);
+      }),
+    )
 
 pub in_order : (ended : Bool) (held : List ℕ) (piece : Piece) → IsNext ended held piece → IsInOrder ended held piece (rest_behind piece held)
 unfolding messages whole_messages

@@ -197,10 +197,12 @@ pub record IsLast (ended : Bool) (held : List ℕ) (piece : Piece) : Type 0 wher
   pub known : (rest : List ℕ) → ended ≡ false
       → whole_messages (held ++ rest) ≡ piece ∷ []
 
--- Pieces come in the order of the messages: `left` is what is held after the piece.
+-- Pieces come in the order of the messages: `left` is what is held after the piece. Of a message
+-- that is too long the first 65,536 bytes are shown.
 abbrev pub IsInOrder : Bool → List ℕ → Piece → List ℕ → Type 0
 IsInOrder ended held (Query text) left = IsCutOff ended held (Query text) left
 IsInOrder ended held (Command text) left = IsCutOff ended held (Command text) left
-IsInOrder ended held (TooLong front) left = IsLast ended held (TooLong (take message_limit held))
+IsInOrder ended held (TooLong front) left =
+    (front ≡ take message_limit held) × IsLast ended held (TooLong front)
 IsInOrder ended held Empty left = messages held ≡ []
 IsInOrder ended held More left = whole_messages held ≡ []

@@ -55,10 +55,10 @@ command_served ended held left text old new out cut state = record {
   written = Appends-nil out;
 }
 
-pub too_long_served : (ended : Bool) (held : List ℕ) (old : Standing) (out : Option (List ℕ)) → IsLast ended held (TooLong (take message_limit held))
+pub too_long_served : (ended : Bool) (held front : List ℕ) (old : Standing) (out : Option (List ℕ)) → IsLast ended held (TooLong front)
     → ServesLast ended held old out out
-too_long_served ended held old out is = record {
-  piece = TooLong (take message_limit held);
+too_long_served ended held front old out is = record {
+  piece = TooLong front;
   first = record {
     all = λ rest closed. ([], is.all rest closed);
     known = λ rest more. ([], is.known rest more);
