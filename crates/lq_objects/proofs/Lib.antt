@@ -2,8 +2,10 @@ pub mod CheckLemmas
 pub mod DirectoryLemmas
 pub mod DistinctLemmas
 pub mod FaultLemmas
+pub mod KnownLemmas
 pub mod LineLemmas
 pub mod ListLemmas
+pub mod NeededLemmas
 pub mod NumberLemmas
 pub mod ObjectLemmas
 pub mod PairLemmas
@@ -11,5 +13,6 @@ pub mod PartLemmas
 pub mod PlaceLemmas
 pub mod ReadLemmas
 pub mod SoundLemmas
+pub mod ThinLemmas
 pub mod VariableLemmas
 pub mod WordLemmas

@@ -1,10 +1,11 @@
 -- Lists that are made of others, and lists without repeats.
-use Rattle.std.proofs.Common.{◌≡◌, ◌≢◌, ℕ, ◌<◌, Bool, true, false, not, Option, Some, None, List, [], ◌∷◌, map, length, get_or, refl, sym, ap₂, subst, arith, IfSome}
-use Rattle.std.specs.Prelude.{nat_eq, filter, is_none}
+use Rattle.std.proofs.Common.{◌≡◌, ◌≢◌, ℕ, ◌<◌, Bool, true, false, not, Option, Some, None, List, [], ◌∷◌, map, length, get_or, reverse, cond, refl, sym, ap, ap₂, ◌∙◌, subst, arith, IfSome, ⊎_elim}
+use Rattle.std.specs.Prelude.{nat_eq, filter, find, is_none}
 use Rattle.std.specs.List.{All, AllPairs, cons_option, filter_map, list_any}
 use Rattle.std.specs.Option.{option_or}
-use Rattle.std.proofs.lemmas.Bool.{eqb-false, not-true, or_parts}
-use Rattle.std.proofs.lemmas.List.{get_or-map, length-map}
+use Rattle.std.proofs.lemmas.Bool.{cases_Bool, eqb-false, not-true, or_parts}
+use Rattle.std.proofs.lemmas.List.{get_or-map, length-map, reverse-append}
+use Rattle.std.proofs.lemmas.List.Folds.{find-append}
 use Rattle.std.proofs.lemmas.List.Elements.{All-cons, All-filter, All-head, All-nil, All-tail, All-weaker, filter_passes}
 use Rattle.std.proofs.lemmas.List.Kept.{AllPairs-cons, AllPairs-filter}
 use Rattle.std.proofs.lemmas.Option.{none-some}
@@ -15,6 +16,10 @@ use Rattle.lq_objects.specs.Objects.{distinct}
 pub option_or_none : {X : Type 0} (first second : Option X) → option_or first second ≡ None → (first ≡ None) × (second ≡ None)
 option_or_none None second none = (refl, none)
 option_or_none (Some x) second none = absurd (none-some x (sym none))
+
+option_or-nothing : {X : Type 0} (found : Option X) → option_or found None ≡ found
+option_or-nothing None = refl
+option_or-nothing (Some x) = refl
 
 pub some_from : {X : Type 0} (found : Option X) → is_none found ≡ false → (x : X) × (found ≡ Some x)
 some_from None some = absurd (cc)
@@ -62,6 +67,36 @@ AllPairs-by R S P xs step pairs all i j d low high =
     step (get_or xs i d) (get_or xs j d) (all i d (omega arith)) (all j d high) (pairs i j d low high)
 
 -- ---- lists of which parts are kept
+
+-- what a filter drops isn't kept by a second one either
+pub filter-filter : {X : Type 0} (kept test : X → Bool) → ((x : X) → kept x ≡ false → test x ≡ false) → (xs : List X)
+    → filter test (filter kept xs) ≡ filter test xs
+filter-filter kept test none [] = refl
+filter-filter kept test none (x ∷ xs) =
+    let rest = filter-filter kept test none xs in
+    ⊎_elim
+    (λ passes. rw passes (ap (λ ys. cond (test x) (x ∷ ys) ys) rest))
+    (λ fails. rw fails (rest ∙ sym (ap (λ passes. cond passes (x ∷ filter test xs) (filter test xs)) (none x fails))))
+    (cases_Bool (kept x))
+
+-- of several that pass the last is found
+pub find-last : {X : Type 0} (test : X → Bool) (x : X) (xs : List X)
+    → find test (reverse (x ∷ xs)) ≡ option_or (find test (reverse xs)) (find test (x ∷ []))
+find-last test x xs = ap (find test) (reverse-append (x ∷ []) xs) ∙ find-append test (reverse xs) (x ∷ [])
+
+-- the same one, where what is dropped doesn't pass
+pub find-filter : {X : Type 0} (kept test : X → Bool) → ((x : X) → kept x ≡ false → test x ≡ false) → (xs : List X)
+    → find test (reverse (filter kept xs)) ≡ find test (reverse xs)
+find-filter kept test none [] = refl
+find-filter kept test none (x ∷ xs) =
+    let rest = find-filter kept test none xs in
+    ⊎_elim
+    (λ passes. rw passes
+    (find-last test x (filter kept xs) ∙ ap (λ found. option_or found (find test (x ∷ []))) rest ∙ sym (find-last test x xs)))
+    (λ fails. rw fails
+    (rest
+    ∙ sym (find-last test x xs ∙ ap (λ passes. option_or (find test (reverse xs)) (cond passes (Some x) None)) (none x fails) ∙ option_or-nothing _)))
+    (cases_Bool (kept x))
 
 pub All-from_list_any : {X : Type 0} (test : X → Bool) (xs : List X) → list_any test xs ≡ false → All (λ x. test x ≡ false) xs
 All-from_list_any test [] none = All-nil (λ x. test x ≡ false)

@@ -5,9 +5,7 @@ use Rattle.std.specs.Char.{is_ascii_digit}
 use Rattle.std.specs.List.{All, cons_option, filter_map, list_all, list_any}
 use Rattle.std.specs.Option.{option_and_then, option_map, option_map_or, option_or}
 use Rattle.std.proofs.lemmas.Bool.{and_from, and_parts, both_ways, cond_both, leb-true, not_from_false, or_from, or_parts}
-use Rattle.std.proofs.lemmas.List.{reverse-append}
 use Rattle.std.proofs.lemmas.List.Elements.{All-cons, All-nil}
-use Rattle.std.proofs.lemmas.List.Folds.{find-append}
 use Rattle.std.proofs.lemmas.List.Quantifiers.{position-Some}
 use Rattle.std.proofs.lemmas.Option.{none-some, same_Some}
 use Rattle.std.proofs.lemmas.Slice.Eq.{bytes_eq-Decides}
@@ -29,7 +27,7 @@ use Rattle.lq_objects.specs.declared.kind.Kind.TheVariants.{Host, Service}
 use Rattle.lq_objects.specs.declared.kind.Reference.{Reference}
 use Rattle.lq_objects.specs.declared.kind.Reference.TheVariants.{ServiceHost}
 use Rattle.lq_objects.specs.declared.fault.ObjectsWhat.TheVariants.{UnknownName}
-use Rattle.lq_objects.proofs.ListLemmas.{All-distinct, All-filter_map, AllPairs-distinct, map-unwrapped, option_or_none, some_from}
+use Rattle.lq_objects.proofs.ListLemmas.{All-distinct, All-filter_map, AllPairs-distinct, find-last, map-unwrapped, option_or_none, some_from}
 use Rattle.lq_objects.proofs.FaultLemmas.{fault_if-none, kind_from_is_of}
 
 -- ---- numbers
@@ -121,11 +119,6 @@ All-known known kind (block ∷ blocks) none =
     (λ is. All-cons (λ lines. unknown_in known kind lines ≡ None) block.lines (lines_of_kind kind blocks)
     (subst (λ other. unknown_in known other block.lines ≡ None) (kind_from_is_of kind block is) both.0) rest)
     (λ _. rest)
-
--- of several that pass the last is found
-find-last : {X : Type 0} (test : X → Bool) (x : X) (xs : List X)
-    → find test (reverse (x ∷ xs)) ≡ option_or (find test (reverse xs)) (find test (x ∷ []))
-find-last test x xs = ap (find test) (reverse-append (x ∷ []) xs) ∙ find-append test (reverse xs) (x ∷ [])
 
 find_none-test : {X : Type 0} (test : X → Bool) (x : X) → find test (x ∷ []) ≡ None → test x ≡ false
 find_none-test test x none =

@@ -4,6 +4,7 @@ pub mod Directories
 pub mod Faults
 pub mod Kinds
 pub mod Names
+pub mod Needed
 pub mod Objects
 pub mod Reading
 pub mod Views

@@ -7,6 +7,7 @@ mod directive;
 mod directory;
 mod fault;
 mod kind;
+mod known;
 mod line;
 mod name;
 mod names;

@@ -3,17 +3,21 @@ ghost use Rattle.std.specs.List.{list_any};
 ghost use Rattle.std.specs.Option.{option_copied};
 ghost use Rattle.lq_text.specs.Blanks.{is_blank};
 ghost use Rattle.lq_objects.specs.Blocks.{is_closing, is_named, is_opening_text, is_telling};
-ghost use Rattle.lq_objects.specs.Blocks.{is_word, one_word, opened_word, telling_lines, word_length};
-ghost use Rattle.lq_objects.specs.Objects.{variable_name};
+ghost use Rattle.lq_objects.specs.Blocks.{is_word, one_word, opened_word, parts_of, word_length};
+ghost use Rattle.lq_objects.specs.Needed.{is_bound, is_known, is_needed};
+ghost use Rattle.lq_objects.specs.Objects.{base_of, base_of_parts, variable_name};
+ghost use Rattle.lq_records.specs.declared.base.Rules.{Rules};
 ghost use Rattle.lq_objects.specs.declared.fault.ObjectsErr.TheVariants.{At};
 
+use crate::directive::is_variable;
 use crate::fault::{ObjectsErr, ObjectsWhat};
+use crate::known::is_known;
 use lq_text::{is_blank, next_line, trim};
 use std::alloc::{AllocError, Global};
 use std::marker::Model;
 
-/// How many bytes a line has, about.
-const BYTES_A_LINE: usize = 24;
+/// How many bytes of a file there are for each line that is needed, about.
+const BYTES_A_LINE: usize = 48;
 
 /// A line that says something: its number in the file, from 1, and its text without the blanks at
 /// both ends.
@@ -84,6 +88,27 @@ impl<'a> Line<'a> {
         &self.text[..self.word]
     }
 
+    /// Whether the line is needed where it stands in a block.
+    pub(crate) fn is_needed(&self) -> bool
+        ensures { result ≡ is_needed self.now }
+    {
+        self.is_known() || is_variable(self.text) || self.is_bound()
+    }
+
+    /// Whether the line is a directive that says something of an object of some kind.
+    fn is_known(&self) -> bool
+        ensures { result ≡ is_known self.now.text }
+    {
+        is_known(self.word, self.text)
+    }
+
+    /// Whether the line opens or closes a block.
+    fn is_bound(&self) -> bool
+        ensures { result ≡ is_bound self.now }
+    {
+        self.is_closing() || self.opened_word().is_some()
+    }
+
     /// Whether the line closes a block.
     pub(crate) fn is_closing(&self) -> bool
         ensures { result ≡ is_closing self.now }
@@ -99,18 +124,26 @@ impl<'a> Line<'a> {
     }
 }
 
-/// The lines of a file that say something.
-pub(crate) fn telling_lines(alloc: Global, b: &[u8]) -> Result<Vec<Line<'_>>, AllocError>
-    ensures { IfOk result (λ lines. lines.items ≡ telling_lines b.now) }
+/// Lines of a file that say the same base as all of them, or the same first fault: those that
+/// aren't needed in their block are left out. Outside a block each line that says something is
+/// there.
+pub(crate) fn needed_lines(alloc: Global, b: &[u8]) -> Result<Vec<Line<'_>>, AllocError>
+    ensures { IfOk result
+        (λ lines. (rules : Rules) → base_of_parts rules (parts_of lines.items) ≡ base_of b.now rules) }
 {
     let mut lines = Vec::with_capacity(alloc, b.len() / BYTES_A_LINE)?;
     let mut at = 0;
     let mut number = 0;
+    let mut within = false;
     'lines: while let Some((end, next)) = next_line(b, at) {
         number += 1;
         let text = trim(&b[at..end]);
         if is_telling(text) {
-            lines.push(Line::new(number, text))?;
+            let line = Line::new(number, text);
+            if !within || line.is_needed() {
+                within = !line.is_closing();
+                lines.push(line)?;
+            }
         }
         at = next;
     }

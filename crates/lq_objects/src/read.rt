@@ -1,7 +1,7 @@
 ghost use Rattle.std.specs.Prelude.{◌≡◌, ◌++◌, [], Ok, IfOk, OnOk};
 ghost use Rattle.std.specs.Option.{option_copied};
 ghost use Rattle.lq_records.specs.Sound.{IsSound};
-ghost use Rattle.lq_objects.specs.Blocks.{parts_of, telling_lines};
+ghost use Rattle.lq_objects.specs.Blocks.{parts_of};
 ghost use Rattle.lq_objects.specs.Checks.{Checks};
 ghost use Rattle.lq_objects.specs.Directories.{directory_of, known};
 ghost use Rattle.lq_objects.specs.Faults.{block_of, blocks_of, part_fault, parts_fault};
@@ -13,7 +13,7 @@ use crate::block::Block;
 use crate::check::read_part;
 use crate::directory::Directory;
 use crate::fault::ObjectsErr;
-use crate::line::{Line, telling_lines};
+use crate::line::{Line, needed_lines};
 use crate::objects::objects_of;
 use crate::part::{Part, after, first_part};
 use crate::unknown::unknown_fault;
@@ -32,7 +32,7 @@ pub fn read_objects(alloc: Global, b: &[u8], rules: Rules) -> Result<Base, Objec
     ensures reads { Reads result (base_of b.now rules) }
     ensures sound { IfOk result IsSound }
 {
-    match telling_lines(alloc, b) {
+    match needed_lines(alloc, b) {
         Ok(lines) => read_lines(alloc, &lines, rules),
         Err(error) => Err(ObjectsErr::Memory(error)),
     }
