@@ -1,67 +1,66 @@
 -- What is to come of the downtimes lies ahead, through each change.
 use Rattle.std.proofs.Common.{◌≡◌, ℕ, ◌≤◌, ◌==◌, min, not, Bool, true, false, List, [], ◌∷◌, ◌++◌, map, filter, refl, arith, true≢false}
 use Rattle.lq_events.specs.declared.status.Downtime.{Downtime}
-use Rattle.lq_live.specs.Downtimes.{after, begun, stage_of, stages}
+use Rattle.lq_live.specs.Downtimes.{after, begin}
 use Rattle.lq_live.specs.Kept.{AllFrom, IsFrom, first_of, next_of}
-use Rattle.lq_live.specs.declared.stage.Stage.{Stage}
 use Rattle.lq_live.specs.declared.event.Event.{Event}
 
-pub lower_from : (m n : ℕ) (ds : List Stage) → m ≤ n → AllFrom n ds → AllFrom m ds
+pub lower_from : (m n : ℕ) (ds : List Downtime) → m ≤ n → AllFrom n ds → AllFrom m ds
 lower_from m n [] low all = tt
 lower_from m n (d ∷ ds) low all = (record { end = omega (arith, low, all.0.end); start = λ is. omega (arith, low, all.0.start is) }, lower_from m n ds low all.1)
 
 -- ---- a list of downtimes that loses some
 
 kept_from : (m : ℕ) (test : Downtime → Bool) (d : Downtime) (ds : List Downtime) (passes : Bool) → test d ≡ passes
-    → IsFrom m (stage_of d) → AllFrom m (stages (filter test ds)) → AllFrom m (stages (filter test (d ∷ ds)))
+    → IsFrom m d → AllFrom m (filter test ds) → AllFrom m (filter test (d ∷ ds))
 kept_from m test d ds true is from rest = rw is (from, rest)
 kept_from m test d ds false is from rest = rw is rest
 
-pub filter_from : (m : ℕ) (test : Downtime → Bool) (ds : List Downtime) → AllFrom m (stages ds) → AllFrom m (stages (filter test ds))
+pub filter_from : (m : ℕ) (test : Downtime → Bool) (ds : List Downtime) → AllFrom m ds → AllFrom m (filter test ds)
 filter_from m test [] all = tt
 filter_from m test (d ∷ ds) all = kept_from m test d ds (test d) refl all.0 (filter_from m test ds all.1)
 
 -- ---- one that begins
 
-begun_one : (m id : ℕ) (d : Downtime) (test : Bool) → (d.id == id) ≡ test → IsFrom m (stage_of d) → IsFrom m (stage_of (begun id d))
-begun_one m id d true is from = rw is (record { end = from.end; start = λ active. absurd (true≢false active) })
-begun_one m id d false is from = rw is from
+begin_one : (m id : ℕ) (d : Downtime) (test : Bool) → (d.id == id) ≡ test → IsFrom m d → IsFrom m (begin id d)
+begin_one m id d true is from = rw is (record { end = from.end; start = λ active. absurd (true≢false active) })
+begin_one m id d false is from = rw is from
 
-pub begun_from : (m id : ℕ) (ds : List Downtime) → AllFrom m (stages ds) → AllFrom m (stages (map (begun id) ds))
-begun_from m id [] all = tt
-begun_from m id (d ∷ ds) all = (begun_one m id d (d.id == id) refl all.0, begun_from m id ds all.1)
+pub begin_from : (m id : ℕ) (ds : List Downtime) → AllFrom m ds → AllFrom m (map (begin id) ds)
+begin_from m id [] all = tt
+begin_from m id (d ∷ ds) all = (begin_one m id d (d.id == id) refl all.0, begin_from m id ds all.1)
 
-after_by : (m : ℕ) (event : Event) (ds : List Downtime) (starts : Bool) → event.starts ≡ starts → AllFrom m (stages ds) → AllFrom m (stages (after event ds))
-after_by m event ds true is all = rw is (begun_from m event.id ds all)
+after_by : (m : ℕ) (event : Event) (ds : List Downtime) (starts : Bool) → event.starts ≡ starts → AllFrom m ds → AllFrom m (after event ds)
+after_by m event ds true is all = rw is (begin_from m event.id ds all)
 after_by m event ds false is all = rw is (filter_from m (λ downtime. not (downtime.id == event.id)) ds all)
 
-pub after_from : (m : ℕ) (event : Event) (ds : List Downtime) → AllFrom m (stages ds) → AllFrom m (stages (after event ds))
+pub after_from : (m : ℕ) (event : Event) (ds : List Downtime) → AllFrom m ds → AllFrom m (after event ds)
 after_from m event ds all = after_by m event ds event.starts refl all
 
 -- ---- one more
 
-pub added_from : (m : ℕ) (d : Downtime) (ds : List Downtime) → AllFrom m (stages ds) → IsFrom m (stage_of d) → AllFrom m (stages (ds ++ d ∷ []))
+pub added_from : (m : ℕ) (d : Downtime) (ds : List Downtime) → AllFrom m ds → IsFrom m d → AllFrom m (ds ++ d ∷ [])
 added_from m d [] all from = (from, tt)
 added_from m d (first ∷ ds) all from = (all.0, added_from m d ds all.1 from)
 
-lower_one : (m n : ℕ) (d : Stage) → m ≤ n → IsFrom n d → IsFrom m d
+lower_one : (m n : ℕ) (d : Downtime) → m ≤ n → IsFrom n d → IsFrom m d
 lower_one m n d low from = record { end = omega (arith, low, from.end); start = λ is. omega (arith, low, from.start is) }
 
-pub added_first : (m n : ℕ) (d : Downtime) (ds : List Downtime) → AllFrom m (stages ds) → IsFrom n (stage_of d) → AllFrom (min m n) (stages (ds ++ d ∷ []))
+pub added_first : (m n : ℕ) (d : Downtime) (ds : List Downtime) → AllFrom m ds → IsFrom n d → AllFrom (min m n) (ds ++ d ∷ [])
 added_first m n d ds all from =
-    added_from (min m n) d ds (lower_from (min m n) m (stages ds) (grind arith) all) (lower_one (min m n) n (stage_of d) (grind arith) from)
+    added_from (min m n) d ds (lower_from (min m n) m ds (grind arith) all) (lower_one (min m n) n d (grind arith) from)
 
 -- one more at the front
-pub first_from : (m n : ℕ) (d : Downtime) (ds : List Downtime) → AllFrom m (stages ds) → IsFrom n (stage_of d) → AllFrom (min m n) (stages (d ∷ ds))
-first_from m n d ds all from = (lower_one (min m n) n (stage_of d) (grind arith) from, lower_from (min m n) m (stages ds) (grind arith) all)
+pub first_from : (m n : ℕ) (d : Downtime) (ds : List Downtime) → AllFrom m ds → IsFrom n d → AllFrom (min m n) (d ∷ ds)
+first_from m n d ds all from = (lower_one (min m n) n d (grind arith) from, lower_from (min m n) m ds (grind arith) all)
 
-next_by : (d : Downtime) (active : Bool) → d.active ≡ active → IsFrom (next_of d) (stage_of d)
+next_by : (d : Downtime) (active : Bool) → d.active ≡ active → IsFrom (next_of d) d
 next_by d true is = rw is (record { end = grind arith; start = λ inactive. absurd (true≢false inactive) })
 next_by d false is = rw is (record { end = grind arith; start = λ inactive. grind arith })
 
-pub next_from : (d : Downtime) → IsFrom (next_of d) (stage_of d)
+pub next_from : (d : Downtime) → IsFrom (next_of d) d
 next_from d = next_by d d.active refl
 
-pub all_from_first : (ds : List Downtime) → AllFrom (first_of ds) (stages ds)
+pub all_from_first : (ds : List Downtime) → AllFrom (first_of ds) ds
 all_from_first [] = tt
 all_from_first (d ∷ ds) = first_from (first_of ds) (next_of d) d ds (all_from_first ds) (next_from d)

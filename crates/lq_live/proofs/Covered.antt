@@ -1,11 +1,12 @@
 -- After all that is due, nothing is due.
 use Rattle.std.proofs.Common.{◌≡◌, ℕ, ◌+◌, ◌≤◌, inl, inr, ◌==◌, ◌&&◌, nat_le, not, Bool, true, false, List, [], ◌∷◌, ◌++◌, map, filter, flat_map, refl, sym, ◌∙◌, arith, true≢false}
 use Rattle.std.proofs.lemmas.Bool.{false≢true}
+use Rattle.std.specs.Ordering.{is_gt}
 use Rattle.std.proofs.lemmas.Bool.Decides.{nat_tests}
-use Rattle.lq_live.specs.Downtimes.{due, end_of, goes_before, moments, only_if, ordered, placed, stage_begun, stages_after, stages_after_all, start_of}
-use Rattle.lq_live.specs.Order.{AllCovered, HasEvent, IsCovered}
+use Rattle.lq_live.specs.Downtimes.{after, begin, due, end_of, event_order, moments, only_if, put_in, sorted, start_of}
+use Rattle.lq_live.specs.Order.{AllCovered, HasEvent, IsCovered, after_all}
+use Rattle.lq_events.specs.declared.status.Downtime.{Downtime}
 use Rattle.lq_live.specs.Kept.{AllFrom}
-use Rattle.lq_live.specs.declared.stage.Stage.{Stage}
 use Rattle.lq_live.specs.declared.event.Event.{Event}
 
 -- ---- events among others
@@ -19,24 +20,24 @@ has_right : (starts : Bool) (id : ℕ) (a b : List Event) → HasEvent starts id
 has_right starts id [] b has = has
 has_right starts id (event ∷ a) b has = inr (has_right starts id a b has)
 
-has_placed_by : (starts : Bool) (id : ℕ) (event first : Event) (events : List Event) (test : Bool) → goes_before event first ≡ test
+has_put_by : (starts : Bool) (id : ℕ) (event first : Event) (events : List Event) (test : Bool) → is_gt (event_order event first) ≡ test
     → HasEvent starts id (event ∷ first ∷ events)
-    → (HasEvent starts id (event ∷ events) → HasEvent starts id (placed event events))
-    → HasEvent starts id (placed event (first ∷ events))
-has_placed_by starts id event first events true is has rest = rw is has
-has_placed_by starts id event first events false is (inl it) rest = rw is (inr (rest (inl it)))
-has_placed_by starts id event first events false is (inr (inl it)) rest = rw is (inl it)
-has_placed_by starts id event first events false is (inr (inr has)) rest = rw is (inr (rest (inr has)))
+    → (HasEvent starts id (event ∷ events) → HasEvent starts id (put_in event_order event events))
+    → HasEvent starts id (put_in event_order event (first ∷ events))
+has_put_by starts id event first events false is has rest = rw is has
+has_put_by starts id event first events true is (inl it) rest = rw is (inr (rest (inl it)))
+has_put_by starts id event first events true is (inr (inl it)) rest = rw is (inl it)
+has_put_by starts id event first events true is (inr (inr has)) rest = rw is (inr (rest (inr has)))
 
-has_placed : (starts : Bool) (id : ℕ) (event : Event) (events : List Event) → HasEvent starts id (event ∷ events) → HasEvent starts id (placed event events)
-has_placed starts id event [] has = has
-has_placed starts id event (first ∷ events) has =
-    has_placed_by starts id event first events (goes_before event first) refl has (λ more. has_placed starts id event events more)
+has_put : (starts : Bool) (id : ℕ) (event : Event) (events : List Event) → HasEvent starts id (event ∷ events) → HasEvent starts id (put_in event_order event events)
+has_put starts id event [] has = has
+has_put starts id event (first ∷ events) has =
+    has_put_by starts id event first events (is_gt (event_order event first)) refl has (λ more. has_put starts id event events more)
 
-has_ordered : (starts : Bool) (id : ℕ) (events : List Event) → HasEvent starts id events → HasEvent starts id (ordered events)
-has_ordered starts id [] has = has
-has_ordered starts id (event ∷ events) (inl is) = has_placed starts id event (ordered events) (inl is)
-has_ordered starts id (event ∷ events) (inr has) = has_placed starts id event (ordered events) (inr (has_ordered starts id events has))
+has_sorted : (starts : Bool) (id : ℕ) (events : List Event) → HasEvent starts id events → HasEvent starts id (sorted event_order events)
+has_sorted starts id [] has = has
+has_sorted starts id (event ∷ events) (inl is) = has_put starts id event (sorted event_order events) (inl is)
+has_sorted starts id (event ∷ events) (inr has) = has_put starts id event (sorted event_order events) (inr (has_sorted starts id events has))
 
 -- ---- what is due of each downtime
 
@@ -44,50 +45,50 @@ has_if : (starts : Bool) (id : ℕ) (test : Bool) (event : Event) → test ≡ t
 has_if starts id true event is starts_is id_is = inl (starts_is, id_is)
 has_if starts id false event is starts_is id_is = absurd (false≢true is)
 
-moments_cover : (second : ℕ) (stage : Stage) → IsCovered second (moments second stage) stage
-moments_cover second stage = record {
-  end = λ below. has_right false stage.id (only_if (not stage.active && nat_le stage.start second) (start_of stage)) (only_if (nat_le stage.end second) (end_of stage))
-      (has_if false stage.id (nat_le stage.end second) (end_of stage) (grind (arith, nat_tests, below)) refl refl);
-  start = λ inactive below. has_left true stage.id (only_if (not stage.active && nat_le stage.start second) (start_of stage)) (only_if (nat_le stage.end second) (end_of stage))
-      (has_if true stage.id (not stage.active && nat_le stage.start second) (start_of stage) (rw inactive (grind (arith, nat_tests, below))) refl refl);
+moments_cover : (second : ℕ) (downtime : Downtime) → IsCovered second (moments second downtime) downtime
+moments_cover second downtime = record {
+  end = λ below. has_right false downtime.id (only_if (not downtime.active && nat_le downtime.start second) (start_of downtime)) (only_if (nat_le downtime.end second) (end_of downtime))
+      (has_if false downtime.id (nat_le downtime.end second) (end_of downtime) (grind (arith, nat_tests, below)) refl refl);
+  start = λ inactive below. has_left true downtime.id (only_if (not downtime.active && nat_le downtime.start second) (start_of downtime)) (only_if (nat_le downtime.end second) (end_of downtime))
+      (has_if true downtime.id (not downtime.active && nat_le downtime.start second) (start_of downtime) (rw inactive (grind (arith, nat_tests, below))) refl refl);
 }
 
-cover_more : (second : ℕ) (a b : List Event) (stage : Stage) → IsCovered second b stage → IsCovered second (a ++ b) stage
-cover_more second a b stage covered = record {
-  end = λ below. has_right false stage.id a b (covered.end below);
-  start = λ inactive below. has_right true stage.id a b (covered.start inactive below);
+cover_more : (second : ℕ) (a b : List Event) (downtime : Downtime) → IsCovered second b downtime → IsCovered second (a ++ b) downtime
+cover_more second a b downtime covered = record {
+  end = λ below. has_right false downtime.id a b (covered.end below);
+  start = λ inactive below. has_right true downtime.id a b (covered.start inactive below);
 }
 
-cover_all_more : (second : ℕ) (a b : List Event) (ds : List Stage) → AllCovered second b ds → AllCovered second (a ++ b) ds
+cover_all_more : (second : ℕ) (a b : List Event) (ds : List Downtime) → AllCovered second b ds → AllCovered second (a ++ b) ds
 cover_all_more second a b [] all = tt
-cover_all_more second a b (stage ∷ ds) all = (cover_more second a b stage all.0, cover_all_more second a b ds all.1)
+cover_all_more second a b (downtime ∷ ds) all = (cover_more second a b downtime all.0, cover_all_more second a b ds all.1)
 
-cover_first : (second : ℕ) (a b : List Event) (stage : Stage) → IsCovered second a stage → IsCovered second (a ++ b) stage
-cover_first second a b stage covered = record {
-  end = λ below. has_left false stage.id a b (covered.end below);
-  start = λ inactive below. has_left true stage.id a b (covered.start inactive below);
+cover_first : (second : ℕ) (a b : List Event) (downtime : Downtime) → IsCovered second a downtime → IsCovered second (a ++ b) downtime
+cover_first second a b downtime covered = record {
+  end = λ below. has_left false downtime.id a b (covered.end below);
+  start = λ inactive below. has_left true downtime.id a b (covered.start inactive below);
 }
 
-all_moments_cover : (second : ℕ) (ds : List Stage) → AllCovered second (flat_map (moments second) ds) ds
+all_moments_cover : (second : ℕ) (ds : List Downtime) → AllCovered second (flat_map (moments second) ds) ds
 all_moments_cover second [] = tt
-all_moments_cover second (stage ∷ ds) = (
-  cover_first second (moments second stage) (flat_map (moments second) ds) stage (moments_cover second stage),
-  cover_all_more second (moments second stage) (flat_map (moments second) ds) ds (all_moments_cover second ds),
+all_moments_cover second (downtime ∷ ds) = (
+  cover_first second (moments second downtime) (flat_map (moments second) ds) downtime (moments_cover second downtime),
+  cover_all_more second (moments second downtime) (flat_map (moments second) ds) ds (all_moments_cover second ds),
 )
 
-ordered_covers : (second : ℕ) (events : List Event) (ds : List Stage) → AllCovered second events ds → AllCovered second (ordered events) ds
-ordered_covers second events [] all = tt
-ordered_covers second events (stage ∷ ds) all = (
+sorted_covers : (second : ℕ) (events : List Event) (ds : List Downtime) → AllCovered second events ds → AllCovered second (sorted event_order events) ds
+sorted_covers second events [] all = tt
+sorted_covers second events (downtime ∷ ds) all = (
   record {
-    end = λ below. has_ordered false stage.id events (all.0.end below);
-    start = λ inactive below. has_ordered true stage.id events (all.0.start inactive below);
+    end = λ below. has_sorted false downtime.id events (all.0.end below);
+    start = λ inactive below. has_sorted true downtime.id events (all.0.start inactive below);
   },
-  ordered_covers second events ds all.1,
+  sorted_covers second events ds all.1,
 )
 
-pub due_covers : (second : ℕ) (ds : List Stage) → AllCovered second (due second ds) ds
+pub due_covers : (second : ℕ) (ds : List Downtime) → AllCovered second (due second ds) ds
 unfolding due
-due_covers second ds = ordered_covers second (flat_map (moments second) ds) ds (all_moments_cover second ds)
+due_covers second ds = sorted_covers second (flat_map (moments second) ds) ds (all_moments_cover second ds)
 
 -- ---- through the events
 
@@ -97,62 +98,62 @@ other_event : (starts : Bool) (id : ℕ) (event : Event) (events : List Event) �
 other_event starts id event events other (inl is) = absurd (other is.0 is.1)
 other_event starts id event events other (inr has) = has
 
-kept_covered : (second : ℕ) (event : Event) (events : List Event) (stage : Stage) → (event.id ≡ stage.id → ⊥)
-    → IsCovered second (event ∷ events) stage → IsCovered second events stage
-kept_covered second event events stage other covered = record {
-  end = λ below. other_event false stage.id event events (λ _ is. other is) (covered.end below);
-  start = λ inactive below. other_event true stage.id event events (λ _ is. other is) (covered.start inactive below);
+kept_covered : (second : ℕ) (event : Event) (events : List Event) (downtime : Downtime) → (event.id ≡ downtime.id → ⊥)
+    → IsCovered second (event ∷ events) downtime → IsCovered second events downtime
+kept_covered second event events downtime other covered = record {
+  end = λ below. other_event false downtime.id event events (λ _ is. other is) (covered.end below);
+  start = λ inactive below. other_event true downtime.id event events (λ _ is. other is) (covered.start inactive below);
 }
 
-ended_by : (second : ℕ) (event : Event) (events : List Event) (stage : Stage) (ds : List Stage) (test : Bool) → (stage.id == event.id) ≡ test
-    → IsCovered second (event ∷ events) stage → AllCovered second events (filter (λ stage. not (stage.id == event.id)) ds)
-    → AllCovered second events (filter (λ stage. not (stage.id == event.id)) (stage ∷ ds))
-ended_by second event events stage ds true is covered rest = rw is rest
-ended_by second event events stage ds false is covered rest = rw is (kept_covered second event events stage (λ same. grind (arith, nat_tests, is, same)) covered, rest)
+ended_by : (second : ℕ) (event : Event) (events : List Event) (downtime : Downtime) (ds : List Downtime) (test : Bool) → (downtime.id == event.id) ≡ test
+    → IsCovered second (event ∷ events) downtime → AllCovered second events (filter (λ downtime. not (downtime.id == event.id)) ds)
+    → AllCovered second events (filter (λ downtime. not (downtime.id == event.id)) (downtime ∷ ds))
+ended_by second event events downtime ds true is covered rest = rw is rest
+ended_by second event events downtime ds false is covered rest = rw is (kept_covered second event events downtime (λ same. grind (arith, nat_tests, is, same)) covered, rest)
 
-ended_covered : (second : ℕ) (event : Event) (events : List Event) (ds : List Stage) → AllCovered second (event ∷ events) ds
-    → AllCovered second events (filter (λ stage. not (stage.id == event.id)) ds)
+ended_covered : (second : ℕ) (event : Event) (events : List Event) (ds : List Downtime) → AllCovered second (event ∷ events) ds
+    → AllCovered second events (filter (λ downtime. not (downtime.id == event.id)) ds)
 ended_covered second event events [] all = tt
-ended_covered second event events (stage ∷ ds) all = ended_by second event events stage ds (stage.id == event.id) refl all.0 (ended_covered second event events ds all.1)
+ended_covered second event events (downtime ∷ ds) all = ended_by second event events downtime ds (downtime.id == event.id) refl all.0 (ended_covered second event events ds all.1)
 
-begun_by : (second : ℕ) (event : Event) (events : List Event) (stage : Stage) (test : Bool) → (stage.id == event.id) ≡ test → event.starts ≡ true
-    → IsCovered second (event ∷ events) stage → IsCovered second events (stage_begun event.id stage)
-begun_by second event events stage true is starts covered = rw is (record {
-  end = λ below. other_event false stage.id event events (λ ends _. absurd (true≢false (sym starts ∙ ends))) (covered.end below);
+begin_by : (second : ℕ) (event : Event) (events : List Event) (downtime : Downtime) (test : Bool) → (downtime.id == event.id) ≡ test → event.starts ≡ true
+    → IsCovered second (event ∷ events) downtime → IsCovered second events (begin event.id downtime)
+begin_by second event events downtime true is starts covered = rw is (record {
+  end = λ below. other_event false downtime.id event events (λ ends _. absurd (true≢false (sym starts ∙ ends))) (covered.end below);
   start = λ inactive below. absurd (true≢false inactive);
 })
-begun_by second event events stage false is starts covered = rw is (kept_covered second event events stage (λ same. grind (arith, nat_tests, is, same)) covered)
+begin_by second event events downtime false is starts covered = rw is (kept_covered second event events downtime (λ same. grind (arith, nat_tests, is, same)) covered)
 
-begun_covered : (second : ℕ) (event : Event) (events : List Event) (ds : List Stage) → event.starts ≡ true → AllCovered second (event ∷ events) ds
-    → AllCovered second events (map (stage_begun event.id) ds)
-begun_covered second event events [] starts all = tt
-begun_covered second event events (stage ∷ ds) starts all =
-    (begun_by second event events stage (stage.id == event.id) refl starts all.0, begun_covered second event events ds starts all.1)
+begin_covered : (second : ℕ) (event : Event) (events : List Event) (ds : List Downtime) → event.starts ≡ true → AllCovered second (event ∷ events) ds
+    → AllCovered second events (map (begin event.id) ds)
+begin_covered second event events [] starts all = tt
+begin_covered second event events (downtime ∷ ds) starts all =
+    (begin_by second event events downtime (downtime.id == event.id) refl starts all.0, begin_covered second event events ds starts all.1)
 
-after_by : (second : ℕ) (event : Event) (events : List Event) (ds : List Stage) (test : Bool) → event.starts ≡ test → AllCovered second (event ∷ events) ds
-    → AllCovered second events (stages_after event ds)
-after_by second event events ds true is all = rw is (begun_covered second event events ds is all)
+after_by : (second : ℕ) (event : Event) (events : List Event) (ds : List Downtime) (test : Bool) → event.starts ≡ test → AllCovered second (event ∷ events) ds
+    → AllCovered second events (after event ds)
+after_by second event events ds true is all = rw is (begin_covered second event events ds is all)
 after_by second event events ds false is all = rw is (ended_covered second event events ds all)
 
-all_after_covered : (second : ℕ) (events : List Event) (ds : List Stage) → AllCovered second events ds → AllCovered second [] (stages_after_all events ds)
-all_after_covered second [] ds all = all
-all_after_covered second (event ∷ events) ds all =
-    all_after_covered second events (stages_after event ds) (after_by second event events ds event.starts refl all)
+after_all_covered : (second : ℕ) (events : List Event) (ds : List Downtime) → AllCovered second events ds → AllCovered second [] (after_all events ds)
+after_all_covered second [] ds all = all
+after_all_covered second (event ∷ events) ds all =
+    after_all_covered second events (after event ds) (after_by second event events ds event.starts refl all)
 
 -- ---- nothing is left
 
 past_second : (second moment : ℕ) → (moment ≤ second → ⊥) → second + 1 ≤ moment
 past_second second moment not_due = grind (arith, not_due)
 
-covered_from : (second : ℕ) (ds : List Stage) → AllCovered second [] ds → AllFrom (second + 1) ds
+covered_from : (second : ℕ) (ds : List Downtime) → AllCovered second [] ds → AllFrom (second + 1) ds
 covered_from second [] all = tt
-covered_from second (stage ∷ ds) all = (
+covered_from second (downtime ∷ ds) all = (
   record {
-    end = past_second second stage.end (λ below. all.0.end below);
-    start = λ inactive. past_second second stage.start (λ below. all.0.start inactive below);
+    end = past_second second downtime.end (λ below. all.0.end below);
+    start = λ inactive. past_second second downtime.start (λ below. all.0.start inactive below);
   },
   covered_from second ds all.1,
 )
 
-pub nothing_left : (second : ℕ) (ds : List Stage) → AllFrom (second + 1) (stages_after_all (due second ds) ds)
-nothing_left second ds = covered_from second _ (all_after_covered second (due second ds) ds (due_covers second ds))
+pub nothing_left : (second : ℕ) (ds : List Downtime) → AllFrom (second + 1) (after_all (due second ds) ds)
+nothing_left second ds = covered_from second _ (after_all_covered second (due second ds) ds (due_covers second ds))

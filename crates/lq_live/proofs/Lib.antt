@@ -1,4 +1,7 @@
+pub mod Sorting
+pub mod DueEvents
 pub mod Quiet
+pub mod Follows
 pub mod Played
 pub mod Ahead
 pub mod Rising

@@ -1,50 +1,49 @@
 -- The events that are due stand in order of their moments, and so do their lines.
-use Rattle.std.proofs.Common.{◌≡◌, ℕ, ◌+◌, ◌<◌, ◌≤◌, ◌&&◌, nat_le, not, Bool, true, false, Option, Some, None, List, [], ◌∷◌, ◌++◌, map, flat_map, refl, arith, append_assoc, if◌then◌else◌}
+use Rattle.std.proofs.Common.{◌≡◌, ◌∙◌, ℕ, ◌+◌, ◌<◌, ◌≤◌, ◌&&◌, nat_le, not, Bool, true, false, Option, Some, None, List, [], ◌∷◌, ◌++◌, map, flat_map, refl, ap, arith, is_gt}
 use Rattle.std.proofs.lemmas.Bool.{false≢true}
 use Rattle.std.proofs.lemmas.Bool.Decides.{nat_tests}
 use Rattle.lq_records.specs.declared.base.Base.{Base}
 use Rattle.lq_events.specs.declared.log_entry.LogEntry.{LogEntry}
-use Rattle.lq_records.specs.declared.object.Object.{Object}
+use Rattle.lq_events.specs.declared.status.Downtime.{Downtime}
 use Rattle.lq_log.specs.declared.book.TheConstants.{TIME_LIMIT}
 use Rattle.lq_live.specs.State.{LineNames, names_of}
-use Rattle.lq_live.specs.Downtimes.{due, end_of, goes_before, moments, only_if, ordered, placed, stages_after, start_of}
-use Rattle.lq_live.specs.Effects.{crosses, downtime_line, transition_line, transition_lines}
-use Rattle.lq_live.specs.StepEdits.{due_edits}
-use Rattle.lq_live.specs.Order.{LinesAt, LinesUpTo, Rising, Within}
-use Rattle.lq_live.specs.Kept.{AllFrom, IsFrom, Timely}
-use Rattle.lq_live.specs.Step.{due_lines, event_lines, transition_of}
-use Rattle.lq_live.specs.declared.stage.Stage.{Stage}
+use Rattle.lq_live.specs.Downtimes.{after, crosses, depth, downtime_line, due, end_of, event_order, line_if, moments, only_if, put_in, sorted, start_of, word_of}
+use Rattle.lq_live.specs.Edits.{depth_line_of, line_in}
+use Rattle.lq_live.specs.StepEdits.{event_edit}
+use Rattle.lq_live.specs.Order.{LinesAt, LinesUpTo, Rising, Within, due_lines, event_lines}
+use Rattle.lq_live.specs.Kept.{AllFrom, IsFrom, MayFollow, Timely, time_behind}
 use Rattle.lq_live.specs.declared.event.Event.{Event}
-use Rattle.lq_live.specs.declared.event.DowntimeTransition.{DowntimeTransition}
 use Rattle.lq_live.specs.declared.edit.Edit.{Edit}
 use Rattle.lq_live.specs.declared.edit.Edit.TheVariants as edit
+use Rattle.lq_live.proofs.DueEvents.{event_total, precedes}
+use Rattle.lq_live.proofs.Sorting.{greater_back}
 
 -- ---- the order of events
 
-before_moment : (a b : Event) → goes_before a b ≡ true → a.moment ≤ b.moment
-before_moment a b is = grind (arith, nat_tests, is)
+before_moment : (a b : Event) → is_gt (event_order a b) ≡ false → a.moment ≤ b.moment
+before_moment a b is = (precedes a b is).moment
 
-after_moment : (a b : Event) → goes_before a b ≡ false → b.moment ≤ a.moment
-after_moment a b is = grind (arith, nat_tests, is)
+after_moment : (a b : Event) → is_gt (event_order a b) ≡ true → b.moment ≤ a.moment
+after_moment a b is = (precedes b a (ap is_gt (event_total.antisymm b a) ∙ greater_back (event_order a b) is)).moment
 
-place_by : (low high : ℕ) (event first : Event) (events : List Event) (test : Bool) → goes_before event first ≡ test
+put_by : (low high : ℕ) (event first : Event) (events : List Event) (test : Bool) → is_gt (event_order event first) ≡ test
     → low ≤ event.moment → event.moment ≤ high → Rising low high (first ∷ events)
-    → (first.moment ≤ event.moment → Rising first.moment high (placed event events))
-    → Rising low high (placed event (first ∷ events))
-place_by low high event first events true is above below rising rest = rw is (above, below, (before_moment event first is, rising.1, rising.2))
-place_by low high event first events false is above below rising rest = rw is (rising.0, rising.1, rest (after_moment event first is))
+    → (first.moment ≤ event.moment → Rising first.moment high (put_in event_order event events))
+    → Rising low high (put_in event_order event (first ∷ events))
+put_by low high event first events false is above below rising rest = rw is (above, below, (before_moment event first is, rising.1, rising.2))
+put_by low high event first events true is above below rising rest = rw is (rising.0, rising.1, rest (after_moment event first is))
 
-placed_rising : (low high : ℕ) (event : Event) (events : List Event) → low ≤ event.moment → event.moment ≤ high → Rising low high events
-    → Rising low high (placed event events)
-placed_rising low high event [] above below rising = (above, below, tt)
-placed_rising low high event (first ∷ events) above below rising =
-    place_by low high event first events (goes_before event first) refl above below rising
-    (λ later. placed_rising first.moment high event events later below rising.2)
+put_rising : (low high : ℕ) (event : Event) (events : List Event) → low ≤ event.moment → event.moment ≤ high → Rising low high events
+    → Rising low high (put_in event_order event events)
+put_rising low high event [] above below rising = (above, below, tt)
+put_rising low high event (first ∷ events) above below rising =
+    put_by low high event first events (is_gt (event_order event first)) refl above below rising
+    (λ later. put_rising first.moment high event events later below rising.2)
 
-ordered_rising : (low high : ℕ) (events : List Event) → Within low high events → Rising low high (ordered events)
-ordered_rising low high [] within = tt
-ordered_rising low high (event ∷ events) within =
-    placed_rising low high event (ordered events) within.0 within.1 (ordered_rising low high events within.2)
+sorted_rising : (low high : ℕ) (events : List Event) → Within low high events → Rising low high (sorted event_order events)
+sorted_rising low high [] within = tt
+sorted_rising low high (event ∷ events) within =
+    put_rising low high event (sorted event_order events) within.0 within.1 (sorted_rising low high events within.2)
 
 -- ---- what is due lies between the present second and the next
 
@@ -60,57 +59,52 @@ start_between : (low high start : ℕ) (active : Bool) → (active ≡ false →
 start_between low high start true from is = absurd (false≢true is)
 start_between low high start false from is = (omega (arith, from refl), grind (arith, nat_tests, is))
 
-moments_within : (low high : ℕ) (stage : Stage) → IsFrom (low + 1) stage → Within low high (moments high stage)
-moments_within low high stage from =
-    within_append low high (only_if (not stage.active && nat_le stage.start high) (start_of stage)) (only_if (nat_le stage.end high) (end_of stage))
-    (within_only_if low high (not stage.active && nat_le stage.start high) (start_of stage) (λ is. start_between low high stage.start stage.active from.start is))
-    (within_only_if low high (nat_le stage.end high) (end_of stage) (λ is. (omega (arith, from.end), grind (arith, nat_tests, is))))
+moments_within : (low high : ℕ) (downtime : Downtime) → IsFrom (low + 1) downtime → Within low high (moments high downtime)
+moments_within low high downtime from =
+    within_append low high (only_if (not downtime.active && nat_le downtime.start high) (start_of downtime)) (only_if (nat_le downtime.end high) (end_of downtime))
+    (within_only_if low high (not downtime.active && nat_le downtime.start high) (start_of downtime) (λ is. start_between low high downtime.start downtime.active from.start is))
+    (within_only_if low high (nat_le downtime.end high) (end_of downtime) (λ is. (omega (arith, from.end), grind (arith, nat_tests, is))))
 
-all_within : (low high : ℕ) (ds : List Stage) → AllFrom (low + 1) ds → Within low high (flat_map (moments high) ds)
+all_within : (low high : ℕ) (ds : List Downtime) → AllFrom (low + 1) ds → Within low high (flat_map (moments high) ds)
 all_within low high [] all = tt
-all_within low high (stage ∷ ds) all =
-    within_append low high (moments high stage) (flat_map (moments high) ds) (moments_within low high stage all.0) (all_within low high ds all.1)
+all_within low high (downtime ∷ ds) all =
+    within_append low high (moments high downtime) (flat_map (moments high) ds) (moments_within low high downtime all.0) (all_within low high ds all.1)
 
-pub due_rising : (low high : ℕ) (ds : List Stage) → AllFrom (low + 1) ds → Rising low high (due high ds)
+pub due_rising : (low high : ℕ) (ds : List Downtime) → AllFrom (low + 1) ds → Rising low high (due high ds)
 unfolding due
-due_rising low high ds all = ordered_rising low high (flat_map (moments high) ds) (all_within low high ds all)
+due_rising low high ds all = sorted_rising low high (flat_map (moments high) ds) (all_within low high ds all)
 
 -- ---- their lines
 
-line_at : (moment : ℕ) (transition : DowntimeTransition) (names : Option LineNames) → LinesAt moment (transition_line moment transition names)
+line_if_at : (test : Bool) (moment : ℕ) (word : List ℕ) (names : Option LineNames) → LinesAt moment (line_if test moment word names)
 unfolding downtime_line
-line_at moment transition None = tt
-line_at moment transition (Some names) = (refl, tt)
+line_if_at test moment word None = tt
+line_if_at true moment word (Some names) = (refl, tt)
+line_if_at false moment word (Some names) = tt
 
-lines_at_if : (test : Bool) (moment : ℕ) (transition : DowntimeTransition) (names : Option LineNames) → LinesAt moment (if test then transition_line moment transition names else [])
-lines_at_if true moment transition names = line_at moment transition names
-lines_at_if false moment transition names = tt
-
-pub transition_lines_at : (base : Base) (moment : ℕ) (transition : DowntimeTransition) (object : Object) (before after : ℕ) → LinesAt moment (transition_lines base moment transition object before after)
-transition_lines_at base moment transition object before after = lines_at_if (crosses transition before after) moment transition (names_of base object)
+later_by : (low high : ℕ) (line : Option LogEntry) (edits : List Edit) → low ≤ high → MayFollow high line → Timely (time_behind high line) edits
+    → (Timely high edits → Timely low edits) → MayFollow low line × Timely (time_behind low line) edits
+later_by low high None edits above may timely rest = (tt, rest timely)
+later_by low high (Some entry) edits above may timely rest = ((omega (arith, above, may.0), may.1), timely)
 
 pub timely_later : (low high : ℕ) (edits : List Edit) → low ≤ high → Timely high edits → Timely low edits
 timely_later low high [] above timely = tt
-timely_later low high (edit.Line entry ∷ edits) above timely = (omega (arith, above, timely.0), timely.1, timely.2)
-timely_later low high (_ ∷ edits) above timely = timely_later low high edits above timely
+timely_later low high (edit ∷ edits) above timely =
+    later_by low high (line_in edit) edits above timely.0 timely.1 (λ rest. timely_later low high edits above rest)
 
-lines_timely : (low moment : ℕ) (entries : List LogEntry) (rest : List Edit) → LinesAt moment entries → low ≤ moment → moment < TIME_LIMIT
-    → Timely moment rest → Timely low (map edit.Line entries ++ rest)
-lines_timely low moment [] rest all above below timely = timely_later low moment rest above timely
-lines_timely low moment (entry ∷ entries) rest all above below timely =
-    (rw all.0 above, rw all.0 below, rw all.0 (lines_timely moment moment entries rest all.1 (omega arith) below timely))
+moment_timely : (low : ℕ) (event : Event) (names : Option LineNames) (rest : List Edit) → low ≤ event.moment → event.moment < TIME_LIMIT
+    → Timely event.moment rest → Timely low (edit.Moment event (depth_line_of event.moment (word_of event) event.object names) ∷ rest)
+unfolding downtime_line
+moment_timely low event None rest above below timely = (tt, timely_later low event.moment rest above timely)
+moment_timely low event (Some names) rest above below timely = ((above, below), timely)
 
 -- the events' edits, and others behind them
-pub due_timely : (low high : ℕ) (base : Base) (events : List Event) (ds : List Stage) (rest : List Edit) → Rising low high events → low ≤ high → high < TIME_LIMIT
-    → Timely high rest → Timely low (due_edits base events ds ++ rest)
-due_timely low high base [] ds rest rising above below timely = timely_later low high rest above timely
-due_timely low high base (event ∷ events) ds rest rising above below timely =
-    let later : List Edit = due_edits base events (stages_after event ds) in
-    let behind : Timely event.moment (later ++ rest) = due_timely event.moment high base events (stages_after event ds) rest rising.2 rising.1 below timely in
-    let lines : List LogEntry = event_lines base event ds in
-    rw (append_assoc (map edit.Line lines ++ edit.Moment event ∷ []) later rest, append_assoc (map edit.Line lines) (edit.Moment event ∷ []) (later ++ rest))
-    (lines_timely low event.moment lines (edit.Moment event ∷ later ++ rest)
-    (transition_lines_at base event.moment (transition_of event) event.object _ _) rising.0 (omega (arith, rising.1, below)) behind)
+pub due_timely : (low high : ℕ) (base : Base) (events : List Event) (rest : List Edit) → Rising low high events → low ≤ high → high < TIME_LIMIT
+    → Timely high rest → Timely low (map (event_edit base) events ++ rest)
+due_timely low high base [] rest rising above below timely = timely_later low high rest above timely
+due_timely low high base (event ∷ events) rest rising above below timely =
+    moment_timely low event (names_of base event.object) (map (event_edit base) events ++ rest) rising.0 (omega (arith, rising.1, below))
+    (due_timely event.moment high base events rest rising.2 rising.1 below timely)
 
 -- no line of theirs is past the second
 up_to_append : (second : ℕ) (a b : List LogEntry) → LinesUpTo second a → LinesUpTo second b → LinesUpTo second (a ++ b)
@@ -121,9 +115,10 @@ at_up_to : (second moment : ℕ) (entries : List LogEntry) → LinesAt moment en
 at_up_to second moment [] all below = tt
 at_up_to second moment (entry ∷ entries) all below = (rw all.0 below, at_up_to second moment entries all.1 below)
 
-pub due_lines_up_to : (low high : ℕ) (base : Base) (events : List Event) (ds : List Stage) → Rising low high events → LinesUpTo high (due_lines base events ds)
+pub due_lines_up_to : (low high : ℕ) (base : Base) (events : List Event) (ds : List Downtime) → Rising low high events → LinesUpTo high (due_lines base events ds)
 due_lines_up_to low high base [] ds rising = tt
 due_lines_up_to low high base (event ∷ events) ds rising =
-    up_to_append high (event_lines base event ds) (due_lines base events (stages_after event ds))
-    (at_up_to high event.moment (event_lines base event ds) (transition_lines_at base event.moment (transition_of event) event.object _ _) rising.1)
-    (due_lines_up_to event.moment high base events (stages_after event ds) rising.2)
+    up_to_append high (event_lines base event ds) (due_lines base events (after event ds))
+    (at_up_to high event.moment (event_lines base event ds)
+    (line_if_at (crosses (depth event.object ds) (depth event.object (after event ds))) event.moment (word_of event) (names_of base event.object)) rising.1)
+    (due_lines_up_to event.moment high base events (after event ds) rising.2)

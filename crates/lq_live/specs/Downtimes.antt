@@ -1,99 +1,133 @@
--- The moments at which downtimes begin and end.
-use Rattle.std.specs.Prelude.{ℕ, ◌==◌, ◌&&◌, ◌||◌, not, nat_le, nat_lt, Bool, true, false, List, [], ◌∷◌, ◌++◌, length, map, filter, flat_map, if◌then◌else◌}
+-- The moments at which downtimes begin and end, and the lines that are written then.
+use Rattle.std.specs.Prelude.{ℕ, ◌≡◌, ◌≤◌, ◌==◌, ◌&&◌, ◌||◌, not, nat_le, nat_lt, Bool, true, false, Option, Some, None, List, [], ◌∷◌, ◌++◌, length, map, filter, flat_map, codes, if◌then◌else◌}
+use Rattle.std.specs.List.{AllAdjacentBelow}
+use Rattle.std.specs.List.Sorted.{IsPermutation}
+use Rattle.std.specs.declared.cmp.Ordering.{Ordering}
+use Rattle.std.specs.Ordering.{bool_cmp, is_gt, nat_cmp, ordering_then}
+use Rattle.lq_events.specs.declared.log_entry.LogEntry.{LogEntry}
 use Rattle.lq_events.specs.declared.status.Downtime.{Downtime}
+use Rattle.lq_log.specs.Written.{written}
+use Rattle.lq_log.specs.declared.written.Form.TheVariants as form
 use Rattle.lq_records.specs.declared.object.Object.{Object}
 use Rattle.lq_records.specs.Object.{is_same_object}
-use Rattle.lq_live.specs.declared.stage.Stage.{Stage}
+use Rattle.lq_live.specs.State.{LineNames, State, names_of}
 use Rattle.lq_live.specs.declared.event.Event.{Event}
 
 abbrev pub only_if : {X : Type 0} → Bool → X → List X
 only_if test item = if test then item ∷ [] else []
 
--- a downtime without its texts
-abbrev pub stage_of : Downtime → Stage
-stage_of downtime = record {
-  id = downtime.id;
-  object = downtime.object;
-  start = downtime.start;
-  end = downtime.end;
-  active = downtime.active;
-}
-
-abbrev pub stages : List Downtime → List Stage
-stages downtimes = map stage_of downtimes
-
 -- ---- what is due
 
-abbrev pub start_of : Stage → Event
-start_of stage =
-    record { moment = stage.start; starts = true; id = stage.id; object = stage.object }
+abbrev pub start_of : Downtime → Event
+start_of downtime = record {
+  moment = downtime.start;
+  starts = true;
+  id = downtime.id;
+  object = downtime.object;
+}
 
-abbrev pub end_of : Stage → Event
-end_of stage = record { moment = stage.end; starts = false; id = stage.id; object = stage.object }
+abbrev pub end_of : Downtime → Event
+end_of downtime = record {
+  moment = downtime.end;
+  starts = false;
+  id = downtime.id;
+  object = downtime.object;
+}
 
--- the start of a downtime that isn't active, and its end, as far as they are due at a second
-abbrev pub moments : ℕ → Stage → List Event
-moments second stage =
-    only_if (not stage.active && nat_le stage.start second) (start_of stage)
-    ++ only_if (nat_le stage.end second) (end_of stage)
+-- the start of a downtime that isn't active, and its end, as far as they have come at a second
+abbrev pub moments : ℕ → Downtime → List Event
+moments second downtime =
+    only_if (not downtime.active && nat_le downtime.start second) (start_of downtime)
+    ++ only_if (nat_le downtime.end second) (end_of downtime)
 
--- ends before starts, then by id
-abbrev pub goes_before_at_once : Event → Event → Bool
-goes_before_at_once a b =
-    if a.starts then b.starts && nat_lt a.id b.id else (b.starts || nat_lt a.id b.id)
+-- An event may stand before another: its moment is no later, at one moment ends come before starts,
+-- and then the lesser id comes first.
+pub record MayPrecede (first next : Event) : Type 0 where
+  pub moment : first.moment ≤ next.moment
+  pub ends_first : first.moment ≡ next.moment → first.starts ≡ true → next.starts ≡ true
+  pub ids : first.moment ≡ next.moment → first.starts ≡ next.starts → first.id ≤ next.id
 
--- by moment
-abbrev pub goes_before : Event → Event → Bool
-goes_before a b = if a.moment == b.moment then goes_before_at_once a b else nat_lt a.moment b.moment
+-- events are what is due at a second: each start and end that has come stands once, in order
+pub record IsDue (second : ℕ) (downtimes : List Downtime) (events : List Event) : Type 0 where
+  pub each : IsPermutation (flat_map (moments second) downtimes) events
+  pub order : AllAdjacentBelow MayPrecede events (length events)
 
--- an event among others that are in order
-abbrev pub placed : Event → List Event → List Event
-placed event [] = event ∷ []
-placed event (first ∷ events) =
-    if goes_before event first then event ∷ first ∷ events
-    else first ∷ placed event events
+-- ---- what is due, as a function
 
-abbrev pub ordered : List Event → List Event
-ordered [] = []
-ordered (event ∷ events) = placed event (ordered events)
+-- an item among others, behind all that it is greater than
+abbrev pub put_in : {X : Type 0} → (X → X → Ordering) → X → List X → List X
+put_in order item [] = item ∷ []
+put_in order item (first ∷ items) =
+    if is_gt (order item first) then first ∷ put_in order item items else item ∷ first ∷ items
 
--- the starts and ends that are due at a second, in their order
-unfoldable pub due : ℕ → List Stage → List Event
-due second downtimes = ordered (flat_map (moments second) downtimes)
+-- any items in any order
+abbrev pub sorted : {X : Type 0} → (X → X → Ordering) → List X → List X
+sorted order [] = []
+sorted order (item ∷ items) = put_in order item (sorted order items)
+
+-- by moment, ends before starts, then by id
+abbrev pub event_order : Event → Event → Ordering
+event_order a b =
+    ordering_then (nat_cmp a.moment b.moment)
+    (ordering_then (bool_cmp a.starts b.starts) (nat_cmp a.id b.id))
+
+unfoldable pub due : ℕ → List Downtime → List Event
+due second downtimes = sorted event_order (flat_map (moments second) downtimes)
 
 -- ---- what an event leaves
 
-abbrev pub begun : ℕ → Downtime → Downtime
-begun id downtime = if downtime.id == id then record downtime { active = true } else downtime
+abbrev pub begin : ℕ → Downtime → Downtime
+begin id downtime = if downtime.id == id then record downtime { active = true } else downtime
 
 -- a start makes its downtime active, an end removes it
 abbrev pub after : Event → List Downtime → List Downtime
 after event downtimes =
-    if event.starts then map (begun event.id) downtimes
+    if event.starts then map (begin event.id) downtimes
     else filter (λ downtime. not (downtime.id == event.id)) downtimes
-
-abbrev pub all_after : List Event → List Downtime → List Downtime
-all_after [] downtimes = downtimes
-all_after (event ∷ events) downtimes = all_after events (after event downtimes)
-
--- the same without texts
-abbrev pub stage_begun : ℕ → Stage → Stage
-stage_begun id stage = if stage.id == id then record stage { active = true } else stage
-
-abbrev pub stages_after : Event → List Stage → List Stage
-stages_after event downtimes =
-    if event.starts then map (stage_begun event.id) downtimes
-    else filter (λ stage. not (stage.id == event.id)) downtimes
-
-abbrev pub stages_after_all : List Event → List Stage → List Stage
-stages_after_all [] downtimes = downtimes
-stages_after_all (event ∷ events) downtimes = stages_after_all events (stages_after event downtimes)
 
 -- ---- how many are active
 
-abbrev pub is_active_of : Object → Stage → Bool
-is_active_of object stage = stage.active && is_same_object stage.object object
+abbrev pub is_active_of : Object → Downtime → Bool
+is_active_of object downtime = downtime.active && is_same_object downtime.object object
 
 -- the number of an object's active downtimes
-abbrev pub depth : Object → List Stage → ℕ
+abbrev pub depth : Object → List Downtime → ℕ
 depth object downtimes = length (filter (is_active_of object) downtimes)
+
+-- whether a number of active downtimes leaves 0, or comes to it
+abbrev pub crosses : ℕ → ℕ → Bool
+crosses before later = (before == 0 && nat_lt 0 later) || (nat_lt 0 before && later == 0)
+
+-- a line says that an object's downtime has `STARTED`, `STOPPED` or been `CANCELLED`
+unfoldable pub downtime_line : ℕ → List ℕ → LineNames → LogEntry
+downtime_line moment word names =
+    written moment (form.Downtime names.host names.service word)
+
+abbrev pub line_if : Bool → ℕ → List ℕ → Option LineNames → List LogEntry
+line_if test moment word None = []
+line_if test moment word (Some names) = only_if test (downtime_line moment word names)
+
+-- The downtimes become others at a moment, at which those of one object change. A line is written
+-- where the number of its active ones leaves 0, or comes to it.
+abbrev pub change_downtimes : ℕ → List ℕ → Object → List Downtime → State → State
+change_downtimes moment word object changed s = record s {
+  downtimes = changed;
+  log =
+      s.log
+      ++ line_if (crosses (depth object s.downtimes) (depth object changed)) moment word
+      (names_of s.base object);
+}
+
+-- ---- the events happen
+
+abbrev pub word_of : Event → List ℕ
+word_of event = if event.starts then codes "STARTED" else codes "STOPPED"
+
+-- the line of an event carries its moment
+abbrev pub happen : Event → State → State
+happen event s =
+    change_downtimes event.moment (word_of event) event.object (after event s.downtimes) s
+
+abbrev pub happen_all : List Event → State → State
+happen_all [] s = s
+happen_all (event ∷ events) s = happen_all events (happen event s)

@@ -1,64 +1,72 @@
--- Single changes of a state.
-use Rattle.std.specs.Prelude.{ℕ, ◌+◌, ◌==◌, ◌&&◌, not, Bool, List, [], ◌∷◌, ◌++◌, filter, if◌then◌else◌}
-use Rattle.lq_events.specs.declared.status.Status.{Status}
-use Rattle.lq_events.specs.declared.status.Comment.{Comment}
+-- How the code works: a step is made as a list of single changes, and these are played then.
+use Rattle.std.specs.Prelude.{ℕ, ◌+◌, not, Option, Some, None, List, [], ◌∷◌, ◌++◌, filter}
+use Rattle.std.specs.Option.{option_map}
+use Rattle.lq_records.specs.declared.base.Base.{Base}
 use Rattle.lq_records.specs.declared.object.Object.{Object}
-use Rattle.lq_records.specs.declared.object.ObjectKind.{ObjectKind}
-use Rattle.lq_records.specs.Object.{is_same_kind, is_same_object, kind_of}
-use Rattle.lq_live.specs.State.{State, with_status}
-use Rattle.lq_live.specs.Downtimes.{after}
+use Rattle.lq_events.specs.declared.log_entry.LogEntry.{LogEntry}
+use Rattle.lq_events.specs.declared.status.Downtime.{Downtime}
+use Rattle.lq_live.specs.State.{LineNames, State, names_of, with_status}
+use Rattle.lq_live.specs.Downtimes.{after, crosses, depth, downtime_line, only_if}
+use Rattle.lq_live.specs.Effects.{acknowledge_as, add_comment, add_line, end_acknowledgement, is_named, remove_comment}
+use Rattle.lq_live.specs.declared.edit.DepthLine.{DepthLine}
 use Rattle.lq_live.specs.declared.edit.Edit.{Edit}
 use Rattle.lq_live.specs.declared.edit.Edit.TheVariants as edit
 
--- the entry types of comments: of one that somebody makes, and of an acknowledgement
-abbrev pub user_comment : ℕ
-user_comment = 1
+-- ---- the line of a change of the downtimes, made before it is known whether it is written
 
-abbrev pub acknowledgement_comment : ℕ
-acknowledgement_comment = 4
+abbrev pub depth_line_of : ℕ → List ℕ → Object → Option LineNames → Option DepthLine
+depth_line_of moment word object names =
+    option_map (λ names. record { object = object; entry = downtime_line moment word names }) names
 
--- 0 none, 1 normal, 2 sticky
-abbrev pub acknowledged_as : ℕ → Status → Status
-acknowledged_as kind status =
-    record status { acknowledged = if kind == 0 then 0 else 1; acknowledgement_type = kind }
+abbrev pub depth_line : Base → ℕ → List ℕ → Object → Option DepthLine
+depth_line base moment word object = depth_line_of moment word object (names_of base object)
 
--- a comment of an acknowledgement that goes with it
-abbrev pub goes_with_acknowledgement : Object → Comment → Bool
-goes_with_acknowledgement object comment =
-    is_same_object comment.object object && comment.entry_type == acknowledgement_comment
-    && comment.persistent == 0
+-- the number of active downtimes of its object
+abbrev pub depth_in : Option DepthLine → List Downtime → ℕ
+depth_in None downtimes = 0
+depth_in (Some line) downtimes = depth line.object downtimes
 
--- whether it has an id and is about an object of a kind
-abbrev pub is_named : ObjectKind → ℕ → ℕ → Object → Bool
-is_named kind id own_id object = own_id == id && is_same_kind (kind_of object) kind
+abbrev pub written_lines : Option DepthLine → ℕ → ℕ → List LogEntry
+written_lines None before later = []
+written_lines (Some line) before later = only_if (crosses before later) line.entry
 
-abbrev pub edited : Edit → State → State
-edited (edit.Now second) s = record s { now = second }
-edited (edit.Moment event) s = record s { downtimes = after event s.downtimes }
-edited (edit.Line entry) s = record s { log = s.log ++ entry ∷ [] }
-edited (edit.SetStatus object status) s = with_status (λ _. status) object s
-edited (edit.SetAcknowledgement object kind) s = with_status (acknowledged_as kind) object s
-edited (edit.SetNotifications object on) s =
+abbrev pub change_with : Option DepthLine → List Downtime → State → State
+change_with line changed s = record s {
+  downtimes = changed;
+  log = s.log ++ written_lines line (depth_in line s.downtimes) (depth_in line changed);
+}
+
+-- ---- single changes
+
+abbrev pub make_edit : Edit → State → State
+make_edit (edit.Now second) s = record s { now = second }
+make_edit (edit.Moment event line) s = change_with line (after event s.downtimes) s
+make_edit (edit.Line entry) s = add_line entry s
+make_edit (edit.SetStatus object status) s = with_status (λ _. status) object s
+make_edit (edit.SetAcknowledgement object kind) s = with_status (acknowledge_as kind) object s
+make_edit (edit.SetNotifications object on) s =
     with_status (λ status. record status { notifications_enabled = on }) object s
-edited (edit.EndAcknowledgement object) s =
-    record s {
-      comments = filter (λ comment. not (goes_with_acknowledgement object comment)) s.comments;
+make_edit (edit.EndAcknowledgement object) s = end_acknowledgement object s
+make_edit (edit.AddComment comment) s = add_comment comment s
+make_edit (edit.RemoveComment kind id) s = remove_comment kind id s
+make_edit (edit.AddDowntime downtime line) s =
+    record (change_with line (s.downtimes ++ downtime ∷ []) s) {
+      next_downtime = s.next_downtime + 1;
     }
-edited (edit.AddComment comment) s =
-    record s { comments = s.comments ++ comment ∷ []; next_comment = s.next_comment + 1 }
-edited (edit.RemoveComment kind id) s =
-    record s {
-      comments = filter (λ comment. not (is_named kind id comment.id comment.object)) s.comments;
-    }
-edited (edit.AddDowntime downtime) s =
-    record s { downtimes = s.downtimes ++ downtime ∷ []; next_downtime = s.next_downtime + 1 }
-edited (edit.RemoveDowntime kind id) s =
-    record s {
-      downtimes =
-          filter (λ downtime. not (is_named kind id downtime.id downtime.object)) s.downtimes;
-    }
-edited (edit.NotifyAtAll on) s = record s { notifications = on }
+make_edit (edit.RemoveDowntime kind id line) s =
+    change_with line
+    (filter (λ downtime. not (is_named kind id downtime.id downtime.object)) s.downtimes)
+    s
+make_edit (edit.NotifyAtAll on) s = record s { notifications = on }
 
-abbrev pub played : List Edit → State → State
-played [] s = s
-played (edit ∷ edits) s = played edits (edited edit s)
+abbrev pub play_edits : List Edit → State → State
+play_edits [] s = s
+play_edits (edit ∷ edits) s = play_edits edits (make_edit edit s)
+
+-- the line that an edit writes, or may write
+abbrev pub line_in : Edit → Option LogEntry
+line_in (edit.Line entry) = Some entry
+line_in (edit.Moment event line) = option_map (λ line. line.entry) line
+line_in (edit.AddDowntime downtime line) = option_map (λ line. line.entry) line
+line_in (edit.RemoveDowntime kind id line) = option_map (λ line. line.entry) line
+line_in _ = None

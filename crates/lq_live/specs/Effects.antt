@@ -1,5 +1,5 @@
--- What each external command changes.
-use Rattle.std.specs.Prelude.{ℕ, ℤ, pos, ◌+◌, ◌-◌, ◌==◌, ◌&&◌, nat_lt, nat_le, Bool, true, false, Option, Some, None, List, [], ◌∷◌, ◌++◌, length, map, codes, if◌then◌else◌}
+-- What each external command changes in a state.
+use Rattle.std.specs.Prelude.{ℕ, ℤ, pos, ◌+◌, ◌==◌, ◌&&◌, not, nat_lt, nat_le, Bool, true, false, Option, Some, None, List, [], ◌∷◌, ◌++◌, length, filter, codes, if◌then◌else◌}
 use Rattle.std.specs.List.{before_first, find}
 use Rattle.lq_records.specs.declared.base.Base.{Base}
 use Rattle.lq_events.specs.declared.log_entry.LogEntry.{LogEntry}
@@ -10,27 +10,93 @@ use Rattle.lq_records.specs.declared.object.Object.{Object}
 use Rattle.lq_records.specs.declared.object.Object.TheVariants as object
 use Rattle.lq_records.specs.declared.object.ObjectKind.{ObjectKind}
 use Rattle.lq_records.specs.declared.object.ObjectKind.TheVariants as object_kind
+use Rattle.lq_records.specs.Object.{is_same_kind, is_same_object, kind_of}
 use Rattle.lq_events.specs.declared.update.Act.{Act}
 use Rattle.lq_events.specs.declared.update.Act.TheVariants as act
 use Rattle.lq_log.specs.Written.{written}
 use Rattle.lq_log.specs.declared.written.Form.TheVariants as form
-use Rattle.lq_log.specs.declared.book.TheConstants.{TIME_LIMIT}
-use Rattle.lq_live.specs.State.{State, LineNames, names_of, status_of}
-use Rattle.lq_live.specs.Results.{check_attempt, most_code, differs, ends_acknowledgement, recorded, is_ok, is_bar}
-use Rattle.lq_live.specs.Downtimes.{only_if, depth, stages}
-use Rattle.lq_live.specs.Edits.{is_named}
+use Rattle.lq_live.specs.State.{State, LineNames, names_of, status_of, with_status}
+use Rattle.lq_live.specs.Results.{check_attempt, most_code, differs, ends_acknowledgement, status_after, is_ok, is_bar}
+use Rattle.lq_live.specs.Downtimes.{change_downtimes}
 use Rattle.lq_live.specs.declared.check_result.CheckAttempt.{CheckAttempt}
-use Rattle.lq_live.specs.declared.stage.Stage.{Stage}
-use Rattle.lq_live.specs.declared.event.DowntimeTransition.{DowntimeTransition}
-use Rattle.lq_live.specs.declared.event.DowntimeTransition.TheVariants as transition
-use Rattle.lq_live.specs.Edits.{acknowledgement_comment, user_comment}
-use Rattle.lq_live.specs.declared.edit.Edit.{Edit}
-use Rattle.lq_live.specs.declared.edit.Edit.TheVariants as edit
 
 -- whether the base holds an object
 abbrev pub holds : Base → Object → Bool
 holds base (object.Host id) = nat_lt id.0 (length base.hosts)
 holds base (object.Service id) = nat_lt id.0 (length base.services)
+
+-- whether it has an id and is about an object of a kind
+abbrev pub is_named : ObjectKind → ℕ → ℕ → Object → Bool
+is_named kind id own_id object = own_id == id && is_same_kind (kind_of object) kind
+
+abbrev pub add_line : LogEntry → State → State
+add_line entry s = record s { log = s.log ++ entry ∷ [] }
+
+abbrev pub when : Bool → (State → State) → State → State
+when test change s = if test then change s else s
+
+-- ---- comments and acknowledgements
+
+-- a comment as a command gives it
+pub record NewComment : Type 0 where
+  pub persistent : ℕ
+  pub author : List ℕ
+  pub text : List ℕ
+
+-- its entry type is 1 where somebody makes it, and 4 where it comes with an acknowledgement
+abbrev pub comment_of : ℕ → Object → NewComment → State → Comment
+comment_of entry_type object new s = record {
+  id = s.next_comment;
+  object = object;
+  author = new.author;
+  text = new.text;
+  time = s.now;
+  entry_type = entry_type;
+  persistent = if new.persistent == 0 then 0 else 1;
+}
+
+abbrev pub add_comment : Comment → State → State
+add_comment comment s =
+    record s { comments = s.comments ++ comment ∷ []; next_comment = s.next_comment + 1 }
+
+-- the comment of an object of a kind that has an id
+abbrev pub remove_comment : ObjectKind → ℕ → State → State
+remove_comment kind id s = record s {
+  comments = filter (λ comment. not (is_named kind id comment.id comment.object)) s.comments;
+}
+
+-- 0 none, 1 normal, 2 sticky
+abbrev pub acknowledge_as : ℕ → Status → Status
+acknowledge_as kind status =
+    record status { acknowledged = if kind == 0 then 0 else 1; acknowledgement_type = kind }
+
+-- a comment of an acknowledgement that goes with it
+abbrev pub goes_with_acknowledgement : Object → Comment → Bool
+goes_with_acknowledgement object comment =
+    is_same_object comment.object object && comment.entry_type == 4 && comment.persistent == 0
+
+-- the comments that go with an object's acknowledgement end
+abbrev pub end_acknowledgement : Object → State → State
+end_acknowledgement object s = record s {
+  comments = filter (λ comment. not (goes_with_acknowledgement object comment)) s.comments;
+}
+
+abbrev pub acknowledge_in : Option Status → Object → ℕ → NewComment → State → State
+acknowledge_in None object sticky new s = s
+acknowledge_in (Some old) object sticky new s =
+    if is_ok old.state then s
+    else add_comment (comment_of 4 object new s)
+    (with_status (acknowledge_as (if sticky == 2 then 2 else 1)) object s)
+
+-- only where the state isn't 0
+abbrev pub acknowledge : Object → ℕ → NewComment → State → State
+acknowledge object sticky new s = acknowledge_in (status_of s object) object sticky new s
+
+abbrev pub remove_acknowledgement : Object → State → State
+remove_acknowledgement object s =
+    when (holds s.base object)
+    (λ s. end_acknowledgement object (with_status (acknowledge_as 0) object s))
+    s
 
 -- ---- check results
 
@@ -40,228 +106,175 @@ alert_line now names attempt new output =
     (form.Alert names.host names.service new attempt.hard attempt.number
     (before_first is_bar output))
 
-abbrev pub result_edits : ℕ → Object → LineNames → CheckAttempt → ℤ → List ℕ → Status → List Edit
-result_edits now object names attempt new output old =
-    only_if (differs attempt new old) (edit.Line (alert_line now names attempt new output))
-    ++ (only_if (ends_acknowledgement new old) (edit.EndAcknowledgement object)
-    ++ edit.SetStatus object (recorded now attempt new output old) ∷ [])
+-- the line, the end of the acknowledgement, the status
+abbrev pub take_result : Object → LineNames → CheckAttempt → ℤ → List ℕ → Status → State → State
+take_result object names attempt new output old s =
+    with_status (λ _. status_after s.now attempt new output old) object
+    (when (ends_acknowledgement new old) (end_acknowledgement object)
+    (when (differs attempt new old) (add_line (alert_line s.now names attempt new output)) s))
 
-abbrev pub result_of : ℕ → Base → Object → ℤ → List ℕ → Option LineNames → Option Status → List Edit
-result_of now base object new output None old = []
-result_of now base object new output (Some names) None = []
-result_of now base object new output (Some names) (Some old) =
-    result_edits now object names (check_attempt base object new old) new output old
+abbrev pub result_of : Object → ℤ → List ℕ → Option LineNames → Option Status → State → State
+result_of object new output None old s = s
+result_of object new output (Some names) None s = s
+result_of object new output (Some names) (Some old) s =
+    take_result object names (check_attempt s.base object new old) new output old s
 
-abbrev pub check_result : Object → ℕ → List ℕ → State → List Edit
+abbrev pub check_result : Object → ℕ → List ℕ → State → State
 check_result object code output s =
     if nat_le code (most_code object)
-    then result_of s.now s.base object (pos code) output (names_of s.base object)
-    (status_of s object)
-    else []
-
--- ---- comments and acknowledgements
-
--- a comment of an entry type
-abbrev pub comment_made : ℕ → Object → ℕ → List ℕ → List ℕ → State → Comment
-comment_made kind object persistent author text s = record {
-  id = s.next_comment;
-  object = object;
-  author = author;
-  text = text;
-  time = s.now;
-  entry_type = kind;
-  persistent = if persistent == 0 then 0 else 1;
-}
-
-abbrev pub add_comment : Object → ℕ → List ℕ → List ℕ → State → List Edit
-add_comment object persistent author text s =
-    only_if (holds s.base object)
-    (edit.AddComment (comment_made user_comment object persistent author text s))
-
-abbrev pub acknowledge_in : Option Status → Object → ℕ → ℕ → List ℕ → List ℕ → State → List Edit
-acknowledge_in None object sticky persistent author text s = []
-acknowledge_in (Some old) object sticky persistent author text s =
-    if is_ok old.state then []
-    else edit.SetAcknowledgement object (if sticky == 2 then 2 else 1)
-    ∷ edit.AddComment (comment_made acknowledgement_comment object persistent author text s) ∷ []
-
--- only where the state isn't 0
-abbrev pub acknowledge : Object → ℕ → ℕ → List ℕ → List ℕ → State → List Edit
-acknowledge object sticky persistent author text s =
-    acknowledge_in (status_of s object) object sticky persistent author text s
-
-abbrev pub remove_acknowledgement : Object → State → List Edit
-remove_acknowledgement object s =
-    if holds s.base object
-    then edit.SetAcknowledgement object 0 ∷ edit.EndAcknowledgement object ∷ []
-    else []
+    then result_of object (pos code) output (names_of s.base object) (status_of s object) s
+    else s
 
 -- ---- downtimes
 
-abbrev pub transition_word : DowntimeTransition → List ℕ
-transition_word transition.Started = codes "STARTED"
-transition_word transition.Stopped = codes "STOPPED"
-transition_word transition.Cancelled = codes "CANCELLED"
+-- a downtime as a command asks for it
+pub record NewDowntime : Type 0 where
+  pub object : Object
+  pub start : ℕ
+  pub end : ℕ
+  pub fixed : ℕ
+  pub trigger : ℕ
+  pub duration : ℕ
+  pub author : List ℕ
+  pub text : List ℕ
 
--- whether a number of active downtimes goes from 0 to 1, or from 1 to 0
-abbrev pub crosses : DowntimeTransition → ℕ → ℕ → Bool
-crosses transition.Started before after = before == 0 && after == 1
-crosses transition.Stopped before after = before == 1 && after == 0
-crosses transition.Cancelled before after = before == 1 && after == 0
+-- it is fixed, has no trigger, begins before it ends, isn't over, and its end can be written
+abbrev pub is_taken : ℕ → NewDowntime → Bool
+is_taken now new =
+    new.fixed == 1 && new.trigger == 0 && nat_lt new.start new.end && nat_lt now new.end
+    && nat_lt new.end 1_000_000_000_000
 
-unfoldable pub downtime_line : ℕ → DowntimeTransition → LineNames → LogEntry
-downtime_line moment transition names =
-    written moment (form.Downtime names.host names.service (transition_word transition))
-
-abbrev pub transition_line : ℕ → DowntimeTransition → Option LineNames → List LogEntry
-transition_line moment transition None = []
-transition_line moment transition (Some names) = downtime_line moment transition names ∷ []
-
--- the line of a moment at which an object's number of active downtimes changes
-abbrev pub transition_lines : Base → ℕ → DowntimeTransition → Object → ℕ → ℕ → List LogEntry
-transition_lines base moment transition object before after =
-    if crosses transition before after
-    then transition_line moment transition (names_of base object)
-    else []
-
--- a downtime is fixed, has no trigger, begins before it ends, isn't over, and its end can be
--- written
-abbrev pub is_taken : ℕ → ℕ → ℕ → ℕ → ℕ → Bool
-is_taken now start end fixed trigger =
-    fixed == 1 && trigger == 0 && nat_lt start end && nat_lt now end && nat_lt end TIME_LIMIT
-
-abbrev pub downtime_made : Object → ℕ → ℕ → ℕ → List ℕ → List ℕ → State → Downtime
-downtime_made object start end duration author text s = record {
+-- it is active at once where its start isn't past the present second
+abbrev pub downtime_of : NewDowntime → State → Downtime
+downtime_of new s = record {
   id = s.next_downtime;
-  object = object;
-  author = author;
-  comment = text;
+  object = new.object;
+  author = new.author;
+  comment = new.text;
   entry_time = s.now;
-  start = start;
-  end = end;
-  active = nat_le start s.now;
-  duration = duration;
+  start = new.start;
+  end = new.end;
+  active = nat_le new.start s.now;
+  duration = new.duration;
 }
 
--- it begins at once where its start isn't past the present second
-abbrev pub start_lines : List Stage → Object → ℕ → State → List LogEntry
-start_lines downtimes object start s =
-    if nat_le start s.now
-    then transition_lines s.base s.now transition.Started object
-    (depth object downtimes) (depth object downtimes + 1)
-    else []
+abbrev pub add_downtime : Downtime → State → State
+add_downtime downtime s =
+    change_downtimes s.now (codes "STARTED") downtime.object (s.downtimes ++ downtime ∷ [])
+    (record s { next_downtime = s.next_downtime + 1 })
 
-abbrev pub add_downtime : List Stage → Object → ℕ → ℕ → ℕ → List ℕ → List ℕ → State → List Edit
-add_downtime downtimes object start end duration author text s =
-    map edit.Line (start_lines downtimes object start s)
-    ++ edit.AddDowntime (downtime_made object start end duration author text s) ∷ []
+abbrev pub schedule : NewDowntime → State → State
+schedule new s =
+    when (holds s.base new.object && is_taken s.now new) (add_downtime (downtime_of new s)) s
 
-abbrev pub schedule : List Stage → Object → ℕ → ℕ → ℕ → ℕ → ℕ → List ℕ → List ℕ → State → List Edit
-schedule downtimes object start end fixed trigger duration author text s =
-    if holds s.base object && is_taken s.now start end fixed trigger
-    then add_downtime downtimes object start end duration author text s
-    else []
-
-abbrev pub cancel_lines : List Stage → Stage → State → List LogEntry
-cancel_lines downtimes stage s =
-    if stage.active
-    then transition_lines s.base s.now transition.Cancelled stage.object
-    (depth stage.object downtimes) (depth stage.object downtimes - 1)
-    else []
-
-abbrev pub remove_found : Option Stage → List Stage → ObjectKind → ℕ → State → List Edit
-remove_found None downtimes kind id s = []
-remove_found (Some stage) downtimes kind id s =
-    map edit.Line (cancel_lines downtimes stage s)
-    ++ edit.RemoveDowntime kind id ∷ []
+abbrev pub remove_found : Option Downtime → ObjectKind → ℕ → State → State
+remove_found None kind id s = s
+remove_found (Some found) kind id s =
+    change_downtimes s.now (codes "CANCELLED") found.object
+    (filter (λ downtime. not (is_named kind id downtime.id downtime.object)) s.downtimes)
+    s
 
 -- the downtime of an object of a kind that has an id
-abbrev pub remove_downtime : List Stage → ObjectKind → ℕ → State → List Edit
-remove_downtime downtimes kind id s =
-    remove_found (find (λ stage. is_named kind id stage.id stage.object) downtimes)
-    downtimes kind id s
+abbrev pub remove_downtime : ObjectKind → ℕ → State → State
+remove_downtime kind id s =
+    remove_found
+    (find (λ downtime. is_named kind id downtime.id downtime.object) s.downtimes)
+    kind id s
 
 -- ---- notifications
 
-abbrev pub set_notifications : Object → ℕ → State → List Edit
-set_notifications object on s = only_if (holds s.base object) (edit.SetNotifications object on)
-
--- ---- the commands by what they are about
-
-abbrev pub is_of_checks : Act → Bool
-is_of_checks (act.ProcessHostCheckResult host code output) = true
-is_of_checks (act.ProcessServiceCheckResult service code output) = true
-is_of_checks _ = false
-
-abbrev pub is_of_comments : Act → Bool
-is_of_comments (act.AddHostComment host persistent author text) = true
-is_of_comments (act.AddSvcComment service persistent author text) = true
-is_of_comments (act.DelHostComment id) = true
-is_of_comments (act.DelSvcComment id) = true
-is_of_comments _ = false
-
-abbrev pub is_of_acknowledgements : Act → Bool
-is_of_acknowledgements (act.AcknowledgeHostProblem host sticky notify persistent author text) = true
-is_of_acknowledgements (act.AcknowledgeSvcProblem service sticky notify persistent _ _) = true
-is_of_acknowledgements (act.RemoveHostAcknowledgement host) = true
-is_of_acknowledgements (act.RemoveSvcAcknowledgement service) = true
-is_of_acknowledgements _ = false
-
-abbrev pub is_of_host_downtimes : Act → Bool
-is_of_host_downtimes (act.ScheduleHostDowntime host start end fixed trigger duration _ _) = true
-is_of_host_downtimes (act.DelHostDowntime id) = true
-is_of_host_downtimes _ = false
-
-abbrev pub is_of_service_downtimes : Act → Bool
-is_of_service_downtimes (act.ScheduleSvcDowntime service start end fixed trigger duration _ _) =
-    true
-is_of_service_downtimes (act.DelSvcDowntime id) = true
-is_of_service_downtimes _ = false
-
-abbrev pub is_of_switches : Act → Bool
-is_of_switches (act.EnableHostNotifications host) = true
-is_of_switches (act.DisableHostNotifications host) = true
-is_of_switches (act.EnableSvcNotifications service) = true
-is_of_switches (act.DisableSvcNotifications service) = true
-is_of_switches act.EnableNotifications = true
-is_of_switches act.DisableNotifications = true
-is_of_switches _ = false
+abbrev pub notify_of : Object → ℕ → State → State
+notify_of object on s =
+    when (holds s.base object)
+    (with_status (λ status. record status { notifications_enabled = on }) object)
+    s
 
 -- ---- the commands
 
--- what a command changes in a state, by the stages of its downtimes
-abbrev pub effect_at : List Stage → Act → State → List Edit
-effect_at ds (act.ProcessHostCheckResult host code output) s =
-    check_result (object.Host host) code output s
-effect_at ds (act.ProcessServiceCheckResult service code output) s =
-    check_result (object.Service service) code output s
-effect_at ds (act.AddHostComment host persistent author text) s =
-    add_comment (object.Host host) persistent author text s
-effect_at ds (act.AddSvcComment service persistent author text) s =
-    add_comment (object.Service service) persistent author text s
-effect_at ds (act.DelHostComment id) s = edit.RemoveComment object_kind.Host id ∷ []
-effect_at ds (act.DelSvcComment id) s = edit.RemoveComment object_kind.Service id ∷ []
-effect_at ds (act.AcknowledgeHostProblem host sticky notify persistent author text) s =
-    acknowledge (object.Host host) sticky persistent author text s
-effect_at ds (act.AcknowledgeSvcProblem service sticky notify persistent author text) s =
-    acknowledge (object.Service service) sticky persistent author text s
-effect_at ds (act.RemoveHostAcknowledgement host) s = remove_acknowledgement (object.Host host) s
-effect_at ds (act.RemoveSvcAcknowledgement service) s =
-    remove_acknowledgement (object.Service service) s
-effect_at ds (act.ScheduleHostDowntime host start end fixed trigger duration author text) s =
-    schedule ds (object.Host host) start end fixed trigger duration author text s
-effect_at ds (act.ScheduleSvcDowntime service start end fixed trigger duration author text) s =
-    schedule ds (object.Service service) start end fixed trigger duration author text s
-effect_at ds (act.DelHostDowntime id) s = remove_downtime ds object_kind.Host id s
-effect_at ds (act.DelSvcDowntime id) s = remove_downtime ds object_kind.Service id s
-effect_at ds (act.EnableHostNotifications host) s = set_notifications (object.Host host) 1 s
-effect_at ds (act.DisableHostNotifications host) s = set_notifications (object.Host host) 0 s
-effect_at ds (act.EnableSvcNotifications service) s = set_notifications (object.Service service) 1 s
-effect_at ds (act.DisableSvcNotifications service) s =
-    set_notifications (object.Service service) 0 s
-effect_at ds act.EnableNotifications s = edit.NotifyAtAll true ∷ []
-effect_at ds act.DisableNotifications s = edit.NotifyAtAll false ∷ []
-effect_at ds act.Unknown s = []
+-- a command by what it is about, an object or an id of an object's kind
+pub data Command : Type 0 where
+  CheckResult : Object → ℕ → List ℕ → Command
+  AddComment : Object → NewComment → Command
+  DelComment : ObjectKind → ℕ → Command
+  AcknowledgeProblem : Object → ℕ → NewComment → Command
+  RemoveAcknowledgement : Object → Command
+  ScheduleDowntime : NewDowntime → Command
+  DelDowntime : ObjectKind → ℕ → Command
+  EnableNotificationsOf : Object → Command
+  DisableNotificationsOf : Object → Command
+  EnableNotifications : Command
+  DisableNotifications : Command
+  Unknown : Command
 
-abbrev pub effect : Act → State → List Edit
-effect act s = effect_at (stages s.downtimes) act s
+abbrev pub comment_in : ℕ → List ℕ → List ℕ → NewComment
+comment_in persistent author text =
+    record { persistent = persistent; author = author; text = text }
+
+abbrev pub command_of : Act → Command
+command_of (act.ProcessHostCheckResult host code output) =
+    CheckResult (object.Host host) code output
+command_of (act.ProcessServiceCheckResult service code output) =
+    CheckResult (object.Service service) code output
+command_of (act.AddHostComment host persistent author text) =
+    AddComment (object.Host host) (comment_in persistent author text)
+command_of (act.AddSvcComment service persistent author text) =
+    AddComment (object.Service service) (comment_in persistent author text)
+command_of (act.DelHostComment id) = DelComment object_kind.Host id
+command_of (act.DelSvcComment id) = DelComment object_kind.Service id
+command_of (act.AcknowledgeHostProblem host sticky notify persistent author text) =
+    AcknowledgeProblem (object.Host host) sticky (comment_in persistent author text)
+command_of (act.AcknowledgeSvcProblem service sticky notify persistent author text) =
+    AcknowledgeProblem (object.Service service) sticky (comment_in persistent author text)
+command_of (act.RemoveHostAcknowledgement host) = RemoveAcknowledgement (object.Host host)
+command_of (act.RemoveSvcAcknowledgement service) = RemoveAcknowledgement (object.Service service)
+command_of (act.ScheduleHostDowntime host start end fixed trigger duration author text) =
+    ScheduleDowntime
+    (record {
+      object = object.Host host;
+      start = start;
+      end = end;
+      fixed = fixed;
+      trigger = trigger;
+      duration = duration;
+      author = author;
+      text = text;
+    })
+command_of (act.ScheduleSvcDowntime service start end fixed trigger duration author text) =
+    ScheduleDowntime
+    (record {
+      object = object.Service service;
+      start = start;
+      end = end;
+      fixed = fixed;
+      trigger = trigger;
+      duration = duration;
+      author = author;
+      text = text;
+    })
+command_of (act.DelHostDowntime id) = DelDowntime object_kind.Host id
+command_of (act.DelSvcDowntime id) = DelDowntime object_kind.Service id
+command_of (act.EnableHostNotifications host) = EnableNotificationsOf (object.Host host)
+command_of (act.DisableHostNotifications host) = DisableNotificationsOf (object.Host host)
+command_of (act.EnableSvcNotifications service) = EnableNotificationsOf (object.Service service)
+command_of (act.DisableSvcNotifications service) = DisableNotificationsOf (object.Service service)
+command_of act.EnableNotifications = EnableNotifications
+command_of act.DisableNotifications = DisableNotifications
+command_of act.Unknown = Unknown
+
+abbrev pub effect_of : Command → State → State
+effect_of (CheckResult object code output) s = check_result object code output s
+effect_of (AddComment object new) s =
+    when (holds s.base object) (add_comment (comment_of 1 object new s)) s
+effect_of (DelComment kind id) s = remove_comment kind id s
+effect_of (AcknowledgeProblem object sticky new) s = acknowledge object sticky new s
+effect_of (RemoveAcknowledgement object) s = remove_acknowledgement object s
+effect_of (ScheduleDowntime new) s = schedule new s
+effect_of (DelDowntime kind id) s = remove_downtime kind id s
+effect_of (EnableNotificationsOf object) s = notify_of object 1 s
+effect_of (DisableNotificationsOf object) s = notify_of object 0 s
+effect_of EnableNotifications s = record s { notifications = true }
+effect_of DisableNotifications s = record s { notifications = false }
+effect_of Unknown s = s
+
+abbrev pub effect : Act → State → State
+effect act s = effect_of (command_of act) s

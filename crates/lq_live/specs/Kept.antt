@@ -1,15 +1,14 @@
 -- The state that the code holds, and what it keeps.
-use Rattle.std.specs.Prelude.{◌≡◌, ℕ, ◌+◌, ◌-◌, min, if◌then◌else◌, ◌<◌, ◌≤◌, ◌^◌, false, List, [], ◌∷◌, length, vec_len, vec_capacity}
+use Rattle.std.specs.Prelude.{◌≡◌, ℕ, ◌+◌, ◌-◌, min, if◌then◌else◌, ◌<◌, ◌≤◌, ◌^◌, false, Option, Some, None, List, [], ◌∷◌, length, vec_len, vec_capacity}
+use Rattle.lq_events.specs.declared.log_entry.LogEntry.{LogEntry}
 use Rattle.lq_events.specs.declared.status.Downtime.{Downtime}
 use Rattle.lq_log.specs.declared.book.TheConstants.{TIME_LIMIT}
 use Rattle.lq_log.specs.Book.{last_time}
 use Rattle.lq_live.specs.State.{State}
-use Rattle.lq_live.specs.Downtimes.{stages}
+use Rattle.lq_live.specs.Edits.{line_in}
 use Rattle.lq_live.specs.Ids.{HasRisingIds}
 use Rattle.lq_live.specs.declared.live_state.LiveState.{LiveState}
-use Rattle.lq_live.specs.declared.stage.Stage.{Stage}
 use Rattle.lq_live.specs.declared.edit.Edit.{Edit}
-use Rattle.lq_live.specs.declared.edit.Edit.TheVariants as edit
 
 abbrev pub state_of : LiveState → State
 state_of live = record {
@@ -35,13 +34,13 @@ state_at second live = at_second second (state_of live)
 -- ---- what every state keeps
 
 -- what is still to come of a downtime isn't before a second
-pub record IsFrom (second : ℕ) (stage : Stage) : Type 0 where
-  pub end : second ≤ stage.end
-  pub start : stage.active ≡ false → second ≤ stage.start
+pub record IsFrom (second : ℕ) (downtime : Downtime) : Type 0 where
+  pub end : second ≤ downtime.end
+  pub start : downtime.active ≡ false → second ≤ downtime.start
 
-abbrev pub AllFrom : ℕ → List Stage → Type 0
+abbrev pub AllFrom : ℕ → List Downtime → Type 0
 AllFrom second [] = Unit {0}
-AllFrom second (stage ∷ downtimes) = IsFrom second stage × AllFrom second downtimes
+AllFrom second (downtime ∷ downtimes) = IsFrom second downtime × AllFrom second downtimes
 
 -- the first second at which a downtime begins or ends, as far as that is still to come
 abbrev pub next_of : Downtime → ℕ
@@ -53,9 +52,9 @@ first_of [] = 2 ^ 64 - 1
 first_of (downtime ∷ downtimes) = min (first_of downtimes) (next_of downtime)
 
 -- each downtime begins before it ends
-abbrev pub AllOrdered : List Stage → Type 0
+abbrev pub AllOrdered : List Downtime → Type 0
 AllOrdered [] = Unit {0}
-AllOrdered (stage ∷ downtimes) = (stage.start < stage.end) × AllOrdered downtimes
+AllOrdered (downtime ∷ downtimes) = (downtime.start < downtime.end) × AllOrdered downtimes
 
 -- Each object has a status. The last line isn't past the present second, all that is to come of the
 -- downtimes is, the second can be written, no id passes the number of lines by more than one, and
@@ -64,8 +63,8 @@ pub record IsKept (s : State) : Type 0 where
   pub hosts : length s.host_status ≡ length s.base.hosts
   pub services : length s.service_status ≡ length s.base.services
   pub lines : last_time s.log ≤ s.now
-  pub ahead : AllFrom (s.now + 1) (stages s.downtimes)
-  pub order : AllOrdered (stages s.downtimes)
+  pub ahead : AllFrom (s.now + 1) s.downtimes
+  pub order : AllOrdered s.downtimes
   pub second : s.now < TIME_LIMIT
   pub downtime_ids : s.next_downtime ≤ length s.log + 1
   pub comment_ids : s.next_comment ≤ length s.log + 1
@@ -75,7 +74,7 @@ pub record IsKept (s : State) : Type 0 where
 
 -- what is found sooner for it: a second before which no downtime begins or ends
 pub record IsIndexed (live : LiveState) : Type 0 where
-  pub moment : AllFrom live.next_moment (stages live.downtimes.items)
+  pub moment : AllFrom live.next_moment live.downtimes.items
 
 -- what holds after so many updates: no update is without its line
 pub record KeepsAll (live : LiveState) (updates : ℕ) : Type 0 where
@@ -85,12 +84,20 @@ pub record KeepsAll (live : LiveState) (updates : ℕ) : Type 0 where
 
 -- ---- edits
 
--- the lines of edits are in order of time after a last one, and below the limit
+-- a line may follow a last one: it is no earlier, and can be written
+abbrev pub MayFollow : ℕ → Option LogEntry → Type 0
+MayFollow last None = Unit {0}
+MayFollow last (Some entry) = (last ≤ entry.time) × (entry.time < TIME_LIMIT)
+
+abbrev pub time_behind : ℕ → Option LogEntry → ℕ
+time_behind last None = last
+time_behind last (Some entry) = entry.time
+
+-- the lines that edits may write are in order of time after a last one
 abbrev pub Timely : ℕ → List Edit → Type 0
 Timely last [] = Unit {0}
-Timely last (edit.Line entry ∷ edits) =
-    (last ≤ entry.time) × (entry.time < TIME_LIMIT) × Timely entry.time edits
-Timely last (_ ∷ edits) = Timely last edits
+Timely last (edit ∷ edits) =
+    MayFollow last (line_in edit) × Timely (time_behind last (line_in edit)) edits
 
 -- so many edits find their room
 pub record HasRoom (live : LiveState) (n : ℕ) : Type 0 where

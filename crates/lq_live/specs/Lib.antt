@@ -1,10 +1,10 @@
 pub mod State
 pub mod Results
 pub mod Downtimes
-pub mod Edits
 pub mod Effects
 pub mod Step
 pub mod Ids
 pub mod Kept
+pub mod Edits
 pub mod StepEdits
 pub mod Order

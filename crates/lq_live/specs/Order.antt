@@ -1,13 +1,33 @@
--- In what order the events and the lines of a step stand.
-use Rattle.std.specs.Prelude.{◌≡◌, ℕ, ◌+◌, ◌<◌, ◌≤◌, ◌⊎◌, Bool, true, false, List, [], ◌∷◌}
+-- How the code works: in what order the events and the lines of a step stand.
+use Rattle.std.specs.Prelude.{◌≡◌, ℕ, ◌+◌, ◌<◌, ◌≤◌, ◌⊎◌, Bool, true, false, Option, Some, None, List, [], ◌∷◌, ◌++◌}
+use Rattle.lq_records.specs.declared.base.Base.{Base}
 use Rattle.lq_events.specs.declared.log_entry.LogEntry.{LogEntry}
 use Rattle.lq_events.specs.declared.status.Downtime.{Downtime}
-use Rattle.lq_live.specs.Downtimes.{stage_of}
+use Rattle.lq_live.specs.State.{names_of}
+use Rattle.lq_live.specs.Downtimes.{after, crosses, depth, line_if, word_of}
+use Rattle.lq_live.specs.Edits.{line_in}
 use Rattle.lq_live.specs.Kept.{IsFrom}
-use Rattle.lq_live.specs.declared.stage.Stage.{Stage}
 use Rattle.lq_live.specs.declared.event.Event.{Event}
 use Rattle.lq_live.specs.declared.edit.Edit.{Edit}
 use Rattle.lq_live.specs.declared.edit.Edit.TheVariants as edit
+
+-- ---- what events leave and write
+
+abbrev pub after_all : List Event → List Downtime → List Downtime
+after_all [] downtimes = downtimes
+after_all (event ∷ events) downtimes = after_all events (after event downtimes)
+
+abbrev pub event_lines : Base → Event → List Downtime → List LogEntry
+event_lines base event downtimes =
+    line_if (crosses (depth event.object downtimes) (depth event.object (after event downtimes)))
+    event.moment (word_of event) (names_of base event.object)
+
+abbrev pub due_lines : Base → List Event → List Downtime → List LogEntry
+due_lines base [] downtimes = []
+due_lines base (event ∷ events) downtimes =
+    event_lines base event downtimes ++ due_lines base events (after event downtimes)
+
+-- ---- in what order
 
 -- the moments of events lie between two seconds
 abbrev pub Within : ℕ → ℕ → List Event → Type 0
@@ -34,30 +54,37 @@ LinesUpTo second (entry ∷ entries) = (entry.time ≤ second) × LinesUpTo seco
 -- what is still to come of a new downtime lies past a second, and it begins before it ends
 pub record IsNew (second : ℕ) (downtime : Downtime) : Type 0 where
   pub order : downtime.start < downtime.end
-  pub ahead : IsFrom (second + 1) (stage_of downtime)
+  pub ahead : IsFrom (second + 1) downtime
 
--- an edit of a command's effect: its line is of that second, its downtime is new, and it moves no
+abbrev pub LineAt : ℕ → Option LogEntry → Type 0
+LineAt second None = Unit {0}
+LineAt second (Some entry) = entry.time ≡ second
+
+-- what an edit of a command's effect does besides its line: its downtime is new, and it moves no
 -- time
+abbrev pub ChangeAt : ℕ → Edit → Type 0
+ChangeAt second (edit.AddDowntime downtime line) = IsNew second downtime
+ChangeAt second (edit.Now later) = ⊥
+ChangeAt second (edit.Moment event line) = ⊥
+ChangeAt second _ = Unit {0}
+
+-- an edit of a command's effect: its line is of that second
 abbrev pub EditAt : ℕ → Edit → Type 0
-EditAt second (edit.Line entry) = entry.time ≡ second
-EditAt second (edit.AddDowntime downtime) = IsNew second downtime
-EditAt second (edit.Now later) = ⊥
-EditAt second (edit.Moment event) = ⊥
-EditAt second _ = Unit {0}
+EditAt second edit = LineAt second (line_in edit) × ChangeAt second edit
 
 abbrev pub EditsAt : ℕ → List Edit → Type 0
 EditsAt second [] = Unit {0}
 EditsAt second (edit ∷ edits) = EditAt second edit × EditsAt second edits
 
 -- how many comments and downtimes edits add
-abbrev pub added : Edit → ℕ
-added (edit.AddComment comment) = 1
-added (edit.AddDowntime downtime) = 1
-added _ = 0
+abbrev pub additions : Edit → ℕ
+additions (edit.AddComment comment) = 1
+additions (edit.AddDowntime downtime line) = 1
+additions _ = 0
 
-abbrev pub all_added : List Edit → ℕ
-all_added [] = 0
-all_added (edit ∷ edits) = added edit + all_added edits
+abbrev pub all_additions : List Edit → ℕ
+all_additions [] = 0
+all_additions (edit ∷ edits) = additions edit + all_additions edits
 
 -- ---- what is due of each downtime is among the events
 
@@ -66,11 +93,11 @@ HasEvent starts id [] = ⊥
 HasEvent starts id (event ∷ events) =
     ((event.starts ≡ starts) × (event.id ≡ id)) ⊎ HasEvent starts id events
 
-pub record IsCovered (second : ℕ) (events : List Event) (stage : Stage) : Type 0 where
-  pub end : stage.end ≤ second → HasEvent false stage.id events
-  pub start : stage.active ≡ false → stage.start ≤ second → HasEvent true stage.id events
+pub record IsCovered (second : ℕ) (events : List Event) (downtime : Downtime) : Type 0 where
+  pub end : downtime.end ≤ second → HasEvent false downtime.id events
+  pub start : downtime.active ≡ false → downtime.start ≤ second → HasEvent true downtime.id events
 
-abbrev pub AllCovered : ℕ → List Event → List Stage → Type 0
+abbrev pub AllCovered : ℕ → List Event → List Downtime → Type 0
 AllCovered second events [] = Unit {0}
-AllCovered second events (stage ∷ downtimes) =
-    IsCovered second events stage × AllCovered second events downtimes
+AllCovered second events (downtime ∷ downtimes) =
+    IsCovered second events downtime × AllCovered second events downtimes

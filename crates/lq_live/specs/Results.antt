@@ -79,8 +79,8 @@ abbrev pub is_first_or_new : ℤ → ℤ → Status → Bool
 is_first_or_new new before old = old.has_been_checked == 0 || not (int_eq new before)
 
 -- the status after a result of a second
-unfoldable pub recorded : ℕ → CheckAttempt → ℤ → List ℕ → Status → Status
-recorded now attempt new output old = record {
+unfoldable pub status_after : ℕ → CheckAttempt → ℤ → List ℕ → Status → Status
+status_after now attempt new output old = record {
   state = new;
   state_type = if is_ok new then 1 else type_number attempt.hard;
   has_been_checked = 1;

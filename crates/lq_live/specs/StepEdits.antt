@@ -1,55 +1,193 @@
--- The edits of a step, as the code makes them, of a state whose second has moved already.
-use Rattle.std.specs.Prelude.{◌≡◌, ℕ, List, [], ◌∷◌, ◌++◌, map, max}
+-- How the code works: the edits of a step, which are made from the state before it.
+use Rattle.std.specs.Prelude.{◌≡◌, ℕ, ℤ, pos, ◌==◌, ◌&&◌, nat_le, Bool, true, false, Option, Some, None, List, [], ◌∷◌, ◌++◌, map, codes, if◌then◌else◌}
+use Rattle.std.specs.List.{find}
+use Rattle.std.specs.Option.{option_and_then}
 use Rattle.lq_records.specs.declared.base.Base.{Base}
+use Rattle.lq_records.specs.declared.object.Object.{Object}
+use Rattle.lq_records.specs.declared.object.ObjectKind.{ObjectKind}
+use Rattle.lq_events.specs.declared.status.Status.{Status}
+use Rattle.lq_events.specs.declared.status.Downtime.{Downtime}
+use Rattle.lq_events.specs.declared.update.Act.{Act}
+use Rattle.lq_events.specs.declared.update.Act.TheVariants as act
 use Rattle.lq_events.specs.declared.update.Update.{Update}
 use Rattle.lq_log.specs.Written.{written}
 use Rattle.lq_log.specs.declared.written.Form.TheVariants as form
-use Rattle.lq_live.specs.State.{State}
-use Rattle.lq_live.specs.Downtimes.{due, stages, stages_after, stages_after_all}
-use Rattle.lq_live.specs.Effects.{effect_at}
-use Rattle.lq_live.specs.Step.{event_lines, second_of}
-use Rattle.lq_events.specs.declared.update.Act.{Act}
+use Rattle.lq_live.specs.State.{LineNames, State, names_of, status_of}
+use Rattle.lq_live.specs.Results.{check_attempt, most_code, differs, ends_acknowledgement, is_ok, status_after}
+use Rattle.lq_live.specs.Downtimes.{due, only_if, word_of}
+use Rattle.lq_live.specs.Effects.{AcknowledgeProblem, AddComment, CheckResult, Command, DelComment, DelDowntime, DisableNotifications, DisableNotificationsOf, EnableNotifications, EnableNotificationsOf, NewComment, NewDowntime, RemoveAcknowledgement, ScheduleDowntime, Unknown, alert_line, command_of, comment_of, downtime_of, holds, is_named, is_taken}
+use Rattle.lq_live.specs.Step.{second_after}
+use Rattle.lq_live.specs.Edits.{depth_line}
 use Rattle.lq_live.specs.Kept.{at_second, state_at}
+use Rattle.lq_live.specs.declared.check_result.CheckAttempt.{CheckAttempt}
+use Rattle.lq_live.specs.declared.downtime_effects.DowntimeRequest.{DowntimeRequest}
 use Rattle.lq_live.specs.declared.live_state.LiveState.{LiveState}
-use Rattle.lq_live.specs.declared.stage.Stage.{Stage}
 use Rattle.lq_live.specs.declared.event.Event.{Event}
+use Rattle.lq_live.specs.declared.edit.DepthLine.{DepthLine}
 use Rattle.lq_live.specs.declared.edit.Edit.{Edit}
 use Rattle.lq_live.specs.declared.edit.Edit.TheVariants as edit
-
--- the downtimes after all that are due at a second
-unfoldable pub stages_at : ℕ → List Stage → List Stage
-stages_at second downtimes = stages_after_all (due second downtimes) downtimes
-
--- ---- the edits of a step
 
 -- edits have become more by others
 abbrev pub Adds : List Edit → List Edit → List Edit → Type 0
 Adds old new more = new ≡ old ++ more
 
-abbrev pub event_edits : Base → Event → List Stage → List Edit
-event_edits base event downtimes =
-    map edit.Line (event_lines base event downtimes) ++ edit.Moment event ∷ []
+-- ---- check results
 
-abbrev pub due_edits : Base → List Event → List Stage → List Edit
-due_edits base [] downtimes = []
-due_edits base (event ∷ events) downtimes =
-    event_edits base event downtimes ++ due_edits base events (stages_after event downtimes)
+abbrev pub known_edits : ℕ → Object → LineNames → CheckAttempt → ℤ → List ℕ → Status → List Edit
+known_edits now object names attempt new output old =
+    only_if (differs attempt new old) (edit.Line (alert_line now names attempt new output))
+    ++ (only_if (ends_acknowledgement new old) (edit.EndAcknowledgement object)
+    ++ edit.SetStatus object (status_after now attempt new output old) ∷ [])
 
-unfoldable pub advance_edits : Base → ℕ → List Stage → List Edit
-advance_edits base second downtimes = due_edits base (due second downtimes) downtimes
+abbrev pub result_edits : ℕ → Base → Object → ℤ → List ℕ
+    → Option LineNames → Option Status → List Edit
+result_edits now base object new output None old = []
+result_edits now base object new output (Some names) None = []
+result_edits now base object new output (Some names) (Some old) =
+    known_edits now object names (check_attempt base object new old) new output old
+
+abbrev pub check_edits : Object → ℕ → List ℕ → State → List Edit
+check_edits object code output s =
+    if nat_le code (most_code object)
+    then result_edits s.now s.base object (pos code) output (names_of s.base object)
+    (status_of s object)
+    else []
+
+-- ---- comments and acknowledgements
+
+abbrev pub comment_edits : Object → NewComment → State → List Edit
+comment_edits object new s =
+    only_if (holds s.base object) (edit.AddComment (comment_of 1 object new s))
+
+abbrev pub acknowledge_edits_in : Option Status → Object → ℕ → NewComment → State → List Edit
+acknowledge_edits_in None object sticky new s = []
+acknowledge_edits_in (Some old) object sticky new s =
+    if is_ok old.state then []
+    else edit.SetAcknowledgement object (if sticky == 2 then 2 else 1)
+    ∷ edit.AddComment (comment_of 4 object new s) ∷ []
+
+abbrev pub acknowledge_edits : Object → ℕ → NewComment → State → List Edit
+acknowledge_edits object sticky new s =
+    acknowledge_edits_in (status_of s object) object sticky new s
+
+abbrev pub remove_acknowledgement_edits : Object → State → List Edit
+remove_acknowledgement_edits object s =
+    if holds s.base object
+    then edit.SetAcknowledgement object 0 ∷ edit.EndAcknowledgement object ∷ []
+    else []
+
+-- ---- downtimes
+
+abbrev pub request_of : DowntimeRequest → NewDowntime
+request_of request = record {
+  object = request.object;
+  start = request.start;
+  end = request.end;
+  fixed = request.fixed;
+  trigger = request.trigger_id;
+  duration = request.duration;
+  author = request.author.now;
+  text = request.text.now;
+}
+
+abbrev pub schedule_edits : NewDowntime → State → List Edit
+schedule_edits new s =
+    only_if (holds s.base new.object && is_taken s.now new)
+    (edit.AddDowntime (downtime_of new s) (depth_line s.base s.now (codes "STARTED") new.object))
+
+abbrev pub cancel_line : Option Downtime → State → Option DepthLine
+cancel_line found s = option_and_then
+    (λ found. depth_line s.base s.now (codes "CANCELLED") found.object)
+    found
+
+abbrev pub remove_downtime_edits : ObjectKind → ℕ → State → List Edit
+remove_downtime_edits kind id s =
+    edit.RemoveDowntime kind id
+    (cancel_line
+    (find (λ downtime. is_named kind id downtime.id downtime.object) s.downtimes)
+    s)
+    ∷ []
+
+-- ---- notifications
+
+abbrev pub notify_edits : Object → ℕ → State → List Edit
+notify_edits object on s = only_if (holds s.base object) (edit.SetNotifications object on)
+
+-- ---- the commands
+
+abbrev pub effect_edits : Command → State → List Edit
+effect_edits (CheckResult object code output) s = check_edits object code output s
+effect_edits (AddComment object new) s = comment_edits object new s
+effect_edits (DelComment kind id) s = edit.RemoveComment kind id ∷ []
+effect_edits (AcknowledgeProblem object sticky new) s = acknowledge_edits object sticky new s
+effect_edits (RemoveAcknowledgement object) s = remove_acknowledgement_edits object s
+effect_edits (ScheduleDowntime new) s = schedule_edits new s
+effect_edits (DelDowntime kind id) s = remove_downtime_edits kind id s
+effect_edits (EnableNotificationsOf object) s = notify_edits object 1 s
+effect_edits (DisableNotificationsOf object) s = notify_edits object 0 s
+effect_edits EnableNotifications s = edit.NotifyAtAll true ∷ []
+effect_edits DisableNotifications s = edit.NotifyAtAll false ∷ []
+effect_edits Unknown s = []
 
 -- the same of the state that the code holds
-abbrev pub stages_in : ℕ → LiveState → List Stage
-stages_in second live = stages_at second (stages live.downtimes.items)
-
 abbrev pub effect_in : ℕ → LiveState → Act → List Edit
-effect_in second live act = effect_at (stages_in second live) act (state_at second live)
+effect_in second live act = effect_edits (command_of act) (state_at second live)
+
+-- ---- a step
+
+abbrev pub event_edit : Base → Event → Edit
+event_edit base event =
+    edit.Moment event (depth_line base event.moment (word_of event) event.object)
+
+unfoldable pub advance_edits : Base → ℕ → List Downtime → List Edit
+advance_edits base second downtimes = map (event_edit base) (due second downtimes)
 
 abbrev pub edits_at : ℕ → State → Update → List Edit
 edits_at second s update =
-    edit.Now second ∷ advance_edits s.base second (stages s.downtimes)
+    edit.Now second ∷ advance_edits s.base second s.downtimes
     ++ edit.Line (written second (form.External update.text))
-    ∷ effect_at (stages_at second (stages s.downtimes)) update.act (at_second second s)
+    ∷ effect_edits (command_of update.act) (at_second second s)
 
 unfoldable pub step_edits : State → Update → List Edit
-step_edits s update = edits_at (max s.now (second_of update)) s update
+step_edits s update = edits_at (second_after s update) s update
+
+-- ---- the commands that one function of the code takes
+
+abbrev pub is_of_checks : Act → Bool
+is_of_checks (act.ProcessHostCheckResult host code output) = true
+is_of_checks (act.ProcessServiceCheckResult service code output) = true
+is_of_checks _ = false
+
+abbrev pub is_of_comments : Act → Bool
+is_of_comments (act.AddHostComment host persistent author text) = true
+is_of_comments (act.AddSvcComment service persistent author text) = true
+is_of_comments (act.DelHostComment id) = true
+is_of_comments (act.DelSvcComment id) = true
+is_of_comments _ = false
+
+abbrev pub is_of_acknowledgements : Act → Bool
+is_of_acknowledgements (act.AcknowledgeHostProblem host sticky notify persistent author text) = true
+is_of_acknowledgements (act.AcknowledgeSvcProblem service sticky notify persistent _ _) = true
+is_of_acknowledgements (act.RemoveHostAcknowledgement host) = true
+is_of_acknowledgements (act.RemoveSvcAcknowledgement service) = true
+is_of_acknowledgements _ = false
+
+abbrev pub is_of_host_downtimes : Act → Bool
+is_of_host_downtimes (act.ScheduleHostDowntime host start end fixed trigger duration _ _) = true
+is_of_host_downtimes (act.DelHostDowntime id) = true
+is_of_host_downtimes _ = false
+
+abbrev pub is_of_service_downtimes : Act → Bool
+is_of_service_downtimes (act.ScheduleSvcDowntime service start end fixed trigger duration _ _) =
+    true
+is_of_service_downtimes (act.DelSvcDowntime id) = true
+is_of_service_downtimes _ = false
+
+abbrev pub is_of_switches : Act → Bool
+is_of_switches (act.EnableHostNotifications host) = true
+is_of_switches (act.DisableHostNotifications host) = true
+is_of_switches (act.EnableSvcNotifications service) = true
+is_of_switches (act.DisableSvcNotifications service) = true
+is_of_switches act.EnableNotifications = true
+is_of_switches act.DisableNotifications = true
+is_of_switches _ = false

@@ -1,11 +1,11 @@
 ghost use Rattle.std.specs.Prelude.{◌≡◌, ◌≤◌, ◌++◌, ◌&&◌, pos, true, if◌then◌else◌, IfOk, OnOk};
 ghost use Rattle.std.specs.List.{before_first, after_first, slice_get};
 ghost use Rattle.lq_live.specs.Downtimes.{only_if};
-ghost use Rattle.lq_live.specs.Effects.{alert_line, check_result, is_of_checks, result_edits, result_of};
+ghost use Rattle.lq_live.specs.Effects.{alert_line};
 ghost use Rattle.lq_live.specs.Kept.{state_at};
-ghost use Rattle.lq_live.specs.Results.{check_attempt, differs, ends_acknowledgement, is_bar, is_first_or_new, is_ok, most_attempts, most_code, recorded, service_attempt, type_number};
+ghost use Rattle.lq_live.specs.Results.{check_attempt, differs, ends_acknowledgement, is_bar, is_first_or_new, is_ok, most_attempts, most_code, service_attempt, status_after, type_number};
 ghost use Rattle.lq_live.specs.State.{line_names, names_of, status_of};
-ghost use Rattle.lq_live.specs.StepEdits.{Adds, effect_in};
+ghost use Rattle.lq_live.specs.StepEdits.{Adds, check_edits, effect_in, is_of_checks, known_edits, result_edits};
 ghost use Rattle.lq_live.specs.declared.edit.Edit.TheVariants as edit;
 
 use crate::context::StepContext;
@@ -73,7 +73,7 @@ impl<'a> StepContext<'a> {
     }
 
     fn push_check(self, edits: &mut Vec<Edit>, check: PassiveCheck<'_>) -> Result<(), Memory>
-        ensures { OnOk result (Adds edits.old.items edits.new.items (check_result
+        ensures { OnOk result (Adds edits.old.items edits.new.items (check_edits
             check.entry.object check.entry.code check.entry.output.now
             (state_at self.entry.second self.entry.live.now))) }
     {
@@ -86,7 +86,7 @@ impl<'a> StepContext<'a> {
     /// Adds the edits of a result whose code the object can have.
     fn push_result(self, edits: &mut Vec<Edit>, check: PassiveCheck<'_>) -> Result<(), Memory>
         requires { check.code ≤ 3 }
-        ensures { OnOk result (Adds edits.old.items edits.new.items (result_of
+        ensures { OnOk result (Adds edits.old.items edits.new.items (result_edits
             self.entry.second self.entry.live.now.base check.entry.object
             (pos check.entry.code) check.entry.output.now
             (names_of self.entry.live.now.base check.entry.object)
@@ -116,14 +116,14 @@ impl<'a> StepContext<'a> {
         check: CheckResult<'_>,
         old: &Status,
     ) -> Result<(), Memory>
-        ensures { OnOk result (Adds edits.old.items edits.new.items (result_edits
+        ensures { OnOk result (Adds edits.old.items edits.new.items (known_edits
             self.entry.second check.entry.object
             (line_names check.entry.name.host.now check.entry.name.service.now)
             check.entry.attempt check.entry.state check.entry.output.now old.now)) }
     {
         self.push_alert(edits, check, old)?;
         push_end(edits, check, old)?;
-        let status = self.recorded(check, old)?;
+        let status = self.status_after(check, old)?;
         edits.push(Edit::SetStatus(check.object, status))?;
         Ok(())
     }
@@ -166,9 +166,9 @@ impl<'a> StepContext<'a> {
     }
 
     /// The status after a result.
-    #[tactic(auto, unfolding(crate::specs::Results::recorded))]
-    fn recorded(self, check: CheckResult<'_>, old: &Status) -> Result<Status, Memory>
-        ensures { IfOk result (λ status. status ≡ recorded self.entry.second
+    #[tactic(auto, unfolding(crate::specs::Results::status_after))]
+    fn status_after(self, check: CheckResult<'_>, old: &Status) -> Result<Status, Memory>
+        ensures { IfOk result (λ status. status ≡ status_after self.entry.second
             check.entry.attempt check.entry.state check.entry.output.now old.now) }
     {
         let ok = is_ok(check.state);

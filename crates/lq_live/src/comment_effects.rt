@@ -1,7 +1,7 @@
 ghost use Rattle.std.specs.Prelude.{◌≡◌, ◌++◌, true, IfOk, OnOk};
-ghost use Rattle.lq_live.specs.Effects.{acknowledge, acknowledge_in, add_comment, comment_made, is_of_acknowledgements, is_of_comments, remove_acknowledgement};
+ghost use Rattle.lq_live.specs.Effects.{comment_in, comment_of};
 ghost use Rattle.lq_live.specs.Kept.{state_at};
-ghost use Rattle.lq_live.specs.StepEdits.{Adds, effect_in};
+ghost use Rattle.lq_live.specs.StepEdits.{Adds, acknowledge_edits, acknowledge_edits_in, comment_edits, effect_in, is_of_acknowledgements, is_of_comments, remove_acknowledgement_edits};
 
 use crate::comments::{ACKNOWLEDGEMENT_COMMENT, USER_COMMENT};
 use crate::context::StepContext;
@@ -81,14 +81,14 @@ impl<'a> StepContext<'a> {
         object: Object,
         comment: NewComment<'_>,
     ) -> Result<(), Memory>
-        ensures { OnOk result (Adds edits.old.items edits.new.items (add_comment object
-            comment.entry.persistent comment.entry.author.now comment.entry.text.now
+        ensures { OnOk result (Adds edits.old.items edits.new.items (comment_edits object
+            (comment_in comment.entry.persistent comment.entry.author.now comment.entry.text.now)
             (state_at self.entry.second self.entry.live.now))) }
     {
         if !self.holds(object) {
             return Ok(());
         }
-        let comment = self.comment_made(USER_COMMENT, object, comment)?;
+        let comment = self.comment_of(USER_COMMENT, object, comment)?;
         push(edits, Edit::AddComment(comment))
     }
 
@@ -147,9 +147,10 @@ impl<'a> StepContext<'a> {
         object: Object,
         given: Acknowledgement<'_>,
     ) -> Result<(), Memory>
-        ensures { OnOk result (Adds edits.old.items edits.new.items (acknowledge object
-            given.entry.sticky given.entry.comment.persistent given.entry.comment.author.now
-            given.entry.comment.text.now (state_at self.entry.second self.entry.live.now))) }
+        ensures { OnOk result (Adds edits.old.items edits.new.items (acknowledge_edits object
+            given.entry.sticky (comment_in given.entry.comment.persistent
+            given.entry.comment.author.now given.entry.comment.text.now)
+            (state_at self.entry.second self.entry.live.now))) }
     {
         let Some(old) = self.status_of(object) else {
             return Ok(());
@@ -159,14 +160,14 @@ impl<'a> StepContext<'a> {
         }
         let kind = if given.sticky == 2 { 2 } else { 1 };
         edits.push(Edit::SetAcknowledgement(object, kind))?;
-        let comment = self.comment_made(ACKNOWLEDGEMENT_COMMENT, object, given.comment)?;
+        let comment = self.comment_of(ACKNOWLEDGEMENT_COMMENT, object, given.comment)?;
         edits.push(Edit::AddComment(comment))?;
         Ok(())
     }
 
     fn remove_acknowledgement(self, edits: &mut Vec<Edit>, object: Object) -> Result<(), Memory>
-        ensures { OnOk result (Adds edits.old.items edits.new.items
-            (remove_acknowledgement object (state_at self.entry.second self.entry.live.now))) }
+        ensures { OnOk result (Adds edits.old.items edits.new.items (remove_acknowledgement_edits
+            object (state_at self.entry.second self.entry.live.now))) }
     {
         if !self.holds(object) {
             return Ok(());
@@ -177,14 +178,14 @@ impl<'a> StepContext<'a> {
     }
 
     /// The comment of an entry type that somebody makes on an object.
-    fn comment_made(
+    fn comment_of(
         self,
         entry_type: u8,
         object: Object,
         comment: NewComment<'_>,
     ) -> Result<Comment, Memory>
-        ensures { IfOk result (λ made. made ≡ comment_made entry_type object
-            comment.entry.persistent comment.entry.author.now comment.entry.text.now
+        ensures { IfOk result (λ made. made ≡ comment_of entry_type object
+            (comment_in comment.entry.persistent comment.entry.author.now comment.entry.text.now)
             (state_at self.entry.second self.entry.live.now)) }
     {
         let author = Text::new(self.alloc, comment.author)?;

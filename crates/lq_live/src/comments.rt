@@ -1,5 +1,5 @@
 ghost use Rattle.std.specs.Prelude.{◌≡◌, ◌≤◌, filter, not, vec_capacity, vec_len};
-ghost use Rattle.lq_live.specs.Edits.{goes_with_acknowledgement, is_named};
+ghost use Rattle.lq_live.specs.Effects.{goes_with_acknowledgement, is_named};
 
 use lq_events::Comment;
 use lq_records::{Object, ObjectKind};

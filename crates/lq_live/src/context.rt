@@ -1,16 +1,13 @@
-ghost use Rattle.std.specs.Prelude.{◌≡◌, IfOk};
+ghost use Rattle.std.specs.Prelude.{◌≡◌};
 ghost use Rattle.std.specs.Option.{option_copied, option_map};
 ghost use Rattle.lq_live.specs.Effects.{holds};
 ghost use Rattle.lq_live.specs.Kept.{state_of};
 ghost use Rattle.lq_live.specs.State.{line_names, names_of, status_of};
-ghost use Rattle.lq_live.specs.StepEdits.{stages_in};
 
-use crate::due::stages_after_due;
 use crate::live_state::LiveState;
 use crate::names::{ObjectName, holds, names_of};
-use crate::stage::Stage;
 use lq_events::Status;
-use lq_records::{Memory, Object};
+use lq_records::Object;
 use std::alloc::Global;
 
 /// What the edits of a step are made from: the state before it, the second to which it moves, and
@@ -46,13 +43,5 @@ impl<'a> StepContext<'a> {
             Object::Host(id) => self.live.host_status.get(id.0 as usize),
             Object::Service(id) => self.live.service_status.get(id.0 as usize),
         }
-    }
-
-    /// The downtimes after all that are due at the second have begun or ended.
-    pub(crate) fn stages(self) -> Result<Vec<Stage>, Memory>
-        ensures { IfOk result (λ found. found.items
-            ≡ stages_in self.entry.second self.entry.live.now) }
-    {
-        stages_after_due(self.alloc, self.second, &self.live.downtimes)
     }
 }

@@ -1,26 +1,24 @@
-ghost use Rattle.std.specs.Prelude.{◌≡◌, ◌++◌, map, true, IfOk, OnOk};
+ghost use Rattle.std.specs.Prelude.{◌≡◌, ◌++◌, codes, true, IfOk, OnOk};
 ghost use Rattle.std.specs.List.{find};
 ghost use Rattle.std.specs.Option.{option_copied};
-ghost use Rattle.lq_live.specs.Edits.{is_named};
-ghost use Rattle.lq_live.specs.Effects.{cancel_lines, downtime_made, is_of_host_downtimes, is_of_service_downtimes, is_taken, remove_downtime, remove_found, schedule, start_lines};
+ghost use Rattle.lq_live.specs.Effects.{downtime_of, is_named, is_taken};
 ghost use Rattle.lq_live.specs.Kept.{state_at};
-ghost use Rattle.lq_live.specs.StepEdits.{Adds, effect_in, stages_in};
-ghost use Rattle.lq_live.specs.declared.edit.Edit.TheVariants as edit;
+ghost use Rattle.lq_live.specs.StepEdits.{Adds, cancel_line, effect_in, is_of_host_downtimes, is_of_service_downtimes, remove_downtime_edits, request_of, schedule_edits};
 
 use crate::comments::is_named;
 use crate::context::StepContext;
 use crate::due::DepthChange;
-use crate::edit::Edit;
-use crate::event::DowntimeTransition;
-use crate::stage::{Stage, depth};
+use crate::edit::{DepthLine, Edit};
+use crate::effect::push;
 use lq_events::{Act, Downtime};
 use lq_log::TIME_LIMIT;
 use lq_records::{Memory, Object, ObjectKind, Text};
 
-/// A downtime as a command gives it, in seconds. It is fixed where the number is 1, and has no
+/// A downtime as a command asks for it, in seconds. It is fixed where the number is 1, and has no
 /// trigger where its id is 0.
 #[derive(Clone, Copy)]
-struct NewDowntime<'a> {
+pub(crate) struct DowntimeRequest<'a> {
+    object: Object,
     start: u64,
     end: u64,
     fixed: u64,
@@ -30,12 +28,11 @@ struct NewDowntime<'a> {
     text: &'a str,
 }
 
-impl<'a> NewDowntime<'a> {
+impl<'a> DowntimeRequest<'a> {
     /// Whether it is fixed, has no trigger, begins before it ends, isn't over, and its end can be
     /// written.
     fn is_taken(self, now: u64) -> bool
-        ensures { result ≡ is_taken now self.entry.start self.entry.end self.entry.fixed
-            self.entry.trigger_id }
+        ensures { result ≡ is_taken now (request_of self.entry) }
     {
         self.fixed == 1
             && self.trigger_id == 0
@@ -63,7 +60,8 @@ impl<'a> StepContext<'a> {
                 author,
                 text,
             } => {
-                let downtime = NewDowntime {
+                let request = DowntimeRequest {
+                    object: Object::Host(*host),
                     start: *start,
                     end: *end,
                     fixed: *fixed,
@@ -72,7 +70,7 @@ impl<'a> StepContext<'a> {
                     author: author.as_str(),
                     text: text.as_str(),
                 };
-                self.schedule(edits, Object::Host(*host), downtime)
+                self.schedule(edits, request)
             }
             Act::DelHostDowntime { id } => self.remove_downtime(edits, ObjectKind::Host, *id),
             _ => Ok(()),
@@ -100,7 +98,8 @@ impl<'a> StepContext<'a> {
                 author,
                 text,
             } => {
-                let downtime = NewDowntime {
+                let request = DowntimeRequest {
+                    object: Object::Service(*service),
                     start: *start,
                     end: *end,
                     fixed: *fixed,
@@ -109,121 +108,89 @@ impl<'a> StepContext<'a> {
                     author: author.as_str(),
                     text: text.as_str(),
                 };
-                self.schedule(edits, Object::Service(*service), downtime)
+                self.schedule(edits, request)
             }
             Act::DelSvcDowntime { id } => self.remove_downtime(edits, ObjectKind::Service, *id),
             _ => Ok(()),
         }
     }
 
-    fn schedule(
-        self,
-        edits: &mut Vec<Edit>,
-        object: Object,
-        new: NewDowntime<'_>,
-    ) -> Result<(), Memory>
-        ensures { OnOk result (Adds edits.old.items edits.new.items (schedule
-            (stages_in self.entry.second self.entry.live.now) object new.entry.start new.entry.end
-            new.entry.fixed new.entry.trigger_id new.entry.duration new.entry.author.now
-            new.entry.text.now (state_at self.entry.second self.entry.live.now))) }
+    fn schedule(self, edits: &mut Vec<Edit>, request: DowntimeRequest<'_>) -> Result<(), Memory>
+        ensures { OnOk result (Adds edits.old.items edits.new.items (schedule_edits
+            (request_of request.entry) (state_at self.entry.second self.entry.live.now))) }
     {
-        if !(self.holds(object) && new.is_taken(self.second)) {
+        if !(self.holds(request.object) && request.is_taken(self.second)) {
             return Ok(());
         }
-        self.push_start(edits, object, new.start)?;
-        let downtime = self.downtime_made(object, new)?;
-        edits.push(Edit::AddDowntime(downtime))?;
-        Ok(())
+        let downtime = self.downtime_of(request)?;
+        let line = self.depth_line(self.now("STARTED", request.object))?;
+        push(edits, Edit::AddDowntime(downtime, line))
     }
 
-    fn downtime_made(self, object: Object, new: NewDowntime<'_>) -> Result<Downtime, Memory>
-        ensures { IfOk result (λ downtime. downtime ≡ downtime_made object new.entry.start
-            new.entry.end new.entry.duration new.entry.author.now new.entry.text.now
+    fn downtime_of(self, request: DowntimeRequest<'_>) -> Result<Downtime, Memory>
+        ensures { IfOk result (λ downtime. downtime ≡ downtime_of (request_of request.entry)
             (state_at self.entry.second self.entry.live.now)) }
     {
-        let author = Text::new(self.alloc, new.author)?;
-        let comment = Text::new(self.alloc, new.text)?;
+        let author = Text::new(self.alloc, request.author)?;
+        let comment = Text::new(self.alloc, request.text)?;
         Ok(Downtime {
             id: self.live.next_downtime,
-            object,
+            object: request.object,
             author,
             comment,
             entry_time: self.second,
-            start: new.start,
-            end: new.end,
-            active: new.start <= self.second,
-            duration: new.duration,
+            start: request.start,
+            end: request.end,
+            active: request.start <= self.second,
+            duration: request.duration,
         })
     }
 
-    /// The line of a downtime that begins at once, where the object has no other active one.
-    fn push_start(self, edits: &mut Vec<Edit>, object: Object, start: u64) -> Result<(), Memory>
-        ensures { OnOk result (Adds edits.old.items edits.new.items (map edit.Line (start_lines
-            (stages_in self.entry.second self.entry.live.now) object start
-            (state_at self.entry.second self.entry.live.now)))) }
+    /// A change of an object's downtimes at the second of the step.
+    fn now(self, word: &'static str, object: Object) -> DepthChange
+        ensures second { result.second ≡ self.entry.second }
+        ensures word { result.word.now ≡ word.now }
+        ensures object { result.object ≡ object }
     {
-        if start > self.second {
-            return Ok(());
-        }
-        let downtimes = self.stages()?;
-        if depth(object, &downtimes) > 0 {
-            return Ok(());
-        }
-        let change = DepthChange {
+        DepthChange {
             second: self.second,
-            transition: DowntimeTransition::Started,
+            word,
             object,
-            before: 0,
-            after: 1,
-        };
-        self.push_transition(edits, change)
+        }
     }
 
     fn remove_downtime(self, edits: &mut Vec<Edit>, kind: ObjectKind, id: u64) -> Result<(), Memory>
-        ensures { OnOk result (Adds edits.old.items edits.new.items (remove_downtime
-            (stages_in self.entry.second self.entry.live.now) kind id
-            (state_at self.entry.second self.entry.live.now))) }
+        ensures { OnOk result (Adds edits.old.items edits.new.items (remove_downtime_edits
+            kind id (state_at self.entry.second self.entry.live.now))) }
     {
-        let downtimes = self.stages()?;
-        let Some(stage) = find(&downtimes, kind, id) else {
-            return Ok(());
-        };
-        self.push_cancelled(edits, stage, &downtimes)?;
-        edits.push(Edit::RemoveDowntime { kind, id })?;
-        Ok(())
+        let line = self.cancel_line(self.find(kind, id))?;
+        push(edits, Edit::RemoveDowntime { kind, id, line })
     }
 
-    /// The line of a downtime that is removed, where the object has no other active one.
-    fn push_cancelled(
-        self,
-        edits: &mut Vec<Edit>,
-        stage: &Stage,
-        downtimes: &[Stage],
-    ) -> Result<(), Memory>
-        ensures { OnOk result (Adds edits.old.items edits.new.items (map edit.Line (cancel_lines
-            downtimes.now stage.now (state_at self.entry.second self.entry.live.now)))) }
+    /// The downtime that has an id, of an object of a kind.
+    fn find(self, kind: ObjectKind, id: u64) -> Option<&'a Downtime>
+        ensures { option_copied result
+            ≡ find (λ downtime. is_named kind id downtime.id downtime.object)
+            self.entry.live.now.downtimes.items }
     {
-        if !stage.active {
-            return Ok(());
+        find(&self.live.downtimes, kind, id)
+    }
+
+    /// The line of a downtime that is removed.
+    fn cancel_line(self, found: Option<&Downtime>) -> Result<Option<DepthLine>, Memory>
+        ensures { IfOk result (λ line. line ≡ cancel_line (option_copied found.entry)
+            (state_at self.entry.second self.entry.live.now)) }
+    {
+        match found {
+            Some(found) => self.depth_line(self.now("CANCELLED", found.object)),
+            None => Ok(None),
         }
-        let before = depth(stage.object, downtimes);
-        let change = DepthChange {
-            second: self.second,
-            transition: DowntimeTransition::Cancelled,
-            object: stage.object,
-            before,
-            after: before.saturating_sub(1),
-        };
-        self.push_transition(edits, change)
     }
 }
 
-/// The downtime that has an id, of an object of a kind.
-fn find(downtimes: &[Stage], kind: ObjectKind, id: u64) -> Option<&Stage>
+fn find(downtimes: &[Downtime], kind: ObjectKind, id: u64) -> Option<&Downtime>
     ensures { option_copied result
-        ≡ find (λ stage. is_named kind id stage.id stage.object) downtimes.now }
+        ≡ find (λ downtime. is_named kind id downtime.id downtime.object) downtimes.now }
 {
-    downtimes
-        .iter()
-        .find(|stage| is_named(kind, id, stage.id, stage.object))
+    downtimes.iter().find(|downtime| is_named(kind, id, downtime.id, downtime.object))
 }

@@ -1,180 +1,107 @@
-ghost use Rattle.std.specs.Prelude.{◌≡◌, ◌++◌, map, OnOk, IfOk};
+ghost use Rattle.std.specs.Prelude.{◌≡◌, ◌++◌, ◌∷◌, [], map, OnOk, IfOk};
 ghost use Rattle.std.specs.Option.{option_map};
-ghost use Rattle.lq_live.specs.Downtimes.{stages, stages_after, stages_after_all};
-ghost use Rattle.lq_live.specs.Effects.{crosses, downtime_line, transition_line, transition_lines, transition_word};
+ghost use Rattle.lq_live.specs.Downtimes.{downtime_line};
+ghost use Rattle.lq_live.specs.Edits.{depth_line, depth_line_of};
+ghost use Rattle.lq_live.specs.Ids.{HasRisingIds};
+ghost use Rattle.lq_live.specs.Kept.{state_of};
 ghost use Rattle.lq_live.specs.State.{line_names};
-ghost use Rattle.lq_live.specs.StepEdits.{Adds, advance_edits, due_edits, event_edits, stages_at};
-ghost use Rattle.lq_live.specs.declared.edit.Edit.TheVariants as edit;
+ghost use Rattle.lq_live.specs.StepEdits.{Adds, advance_edits, event_edit};
 
 use crate::context::StepContext;
-use crate::edit::Edit;
-use crate::event::{DowntimeTransition, Event, due};
+use crate::edit::{DepthLine, Edit};
+use crate::event::Event;
 use crate::names::ObjectName;
-use crate::stage::{Stage, depth, stages_of};
-use lq_events::{Downtime, LogEntry};
+use lq_events::LogEntry;
 use lq_log::{Form, make_line};
 use lq_records::{Memory, Object, Text};
 use std::alloc::Global;
 
-/// A second at which an object's number of active downtimes changes from one to another.
+/// A second at which an object's downtimes change, and the word of the line that is written where
+/// the number of active ones leaves 0, or comes to it.
 #[derive(Clone, Copy)]
 pub(crate) struct DepthChange {
     pub(crate) second: u64,
-    pub(crate) transition: DowntimeTransition,
+    pub(crate) word: &'static str,
     pub(crate) object: Object,
-    pub(crate) before: usize,
-    pub(crate) after: usize,
-}
-
-impl DepthChange {
-    /// Whether a line is written: where the number leaves 0, or comes to it.
-    fn crosses(self) -> bool
-        ensures { result ≡ crosses self.transition self.before self.after }
-    {
-        match self.transition {
-            DowntimeTransition::Started => self.before == 0 && self.after == 1,
-            DowntimeTransition::Stopped | DowntimeTransition::Cancelled => {
-                self.before == 1 && self.after == 0
-            }
-        }
-    }
 }
 
 impl<'a> StepContext<'a> {
-    /// Adds the line of a change.
-    pub(crate) fn push_transition(
-        self,
-        edits: &mut Vec<Edit>,
-        change: DepthChange,
-    ) -> Result<(), Memory>
-        ensures { OnOk result (Adds edits.old.items edits.new.items (map edit.Line
-            (transition_lines self.entry.live.now.base change.second change.transition
-            change.object change.before change.after))) }
-    {
-        if !change.crosses() {
-            return Ok(());
-        }
-        self.push_line(edits, change, self.name_of(change.object))
-    }
-
-    fn push_line(
-        self,
-        edits: &mut Vec<Edit>,
-        change: DepthChange,
-        name: Option<ObjectName<'_>>,
-    ) -> Result<(), Memory>
-        ensures { OnOk result (Adds edits.old.items edits.new.items (map edit.Line
-            (transition_line change.second change.transition
-            (option_map (λ name. line_names name.host.now name.service.now) name.entry)))) }
-    {
-        let Some(name) = name else {
-            return Ok(());
-        };
-        edits.push(Edit::Line(downtime_line(self.alloc, change, name)?))?;
-        Ok(())
-    }
-
-    /// Adds the edits of the starts and ends that are due, and plays them.
+    /// Adds the edits of the starts and ends that are due.
     #[tactic(auto, unfolding(crate::specs::StepEdits::advance_edits))]
-    pub(crate) fn push_due(
-        self,
-        edits: &mut Vec<Edit>,
-        downtimes: &mut Vec<Stage>,
-    ) -> Result<(), Memory>
-        ensures { OnOk result (Adds edits.old.items edits.new.items
-            (advance_edits self.entry.live.now.base self.entry.second downtimes.old.items)) }
+    pub(crate) fn push_due(self, edits: &mut Vec<Edit>) -> Result<(), Memory>
+        requires { HasRisingIds (state_of self.live.now) }
+        ensures { OnOk result (Adds edits.old.items edits.new.items (advance_edits
+            self.entry.live.now.base self.entry.second self.entry.live.now.downtimes.items)) }
     {
-        let events = due(self.alloc, self.second, downtimes)?;
-        self.push_events(edits, &events, downtimes)
+        let events = self.due()?;
+        self.push_events(edits, &events)
     }
 
-    fn push_events(
-        self,
-        edits: &mut Vec<Edit>,
-        events: &[Event],
-        downtimes: &mut Vec<Stage>,
-    ) -> Result<(), Memory>
+    fn push_events(self, edits: &mut Vec<Edit>, events: &[Event]) -> Result<(), Memory>
         ensures { OnOk result (Adds edits.old.items edits.new.items
-            (due_edits self.entry.live.now.base events.now downtimes.old.items)) }
+            (map (event_edit self.entry.live.now.base) events.now)) }
     {
         for event in events {
-            self.push_event(edits, event, downtimes)?;
+            self.push_event(edits, event)?;
         }
         Ok(())
     }
 
-    fn push_event(
-        self,
-        edits: &mut Vec<Edit>,
-        event: &Event,
-        downtimes: &mut Vec<Stage>,
-    ) -> Result<(), Memory>
-        ensures edits { OnOk result (Adds edits.old.items edits.new.items
-            (event_edits self.entry.live.now.base event.now downtimes.old.items)) }
-        ensures after { OnOk result
-            (downtimes.new.items ≡ stages_after event.now downtimes.old.items) }
+    fn push_event(self, edits: &mut Vec<Edit>, event: &Event) -> Result<(), Memory>
+        ensures { OnOk result (edits.new.items
+            ≡ edits.old.items ++ event_edit self.entry.live.now.base event.now ∷ []) }
     {
-        let before = depth(event.object, downtimes);
-        event.play(downtimes);
         let change = DepthChange {
             second: event.moment,
-            transition: event.transition(),
+            word: event.word(),
             object: event.object,
-            before,
-            after: depth(event.object, downtimes),
         };
-        self.push_transition(edits, change)?;
-        edits.push(Edit::Moment(*event))?;
+        let line = self.depth_line(change)?;
+        edits.push(Edit::Moment(*event, line))?;
         Ok(())
     }
-}
 
-fn transition_word(transition: DowntimeTransition) -> &'static str
-    ensures { result.now ≡ transition_word transition }
-{
-    match transition {
-        DowntimeTransition::Started => "STARTED",
-        DowntimeTransition::Stopped => "STOPPED",
-        DowntimeTransition::Cancelled => "CANCELLED",
+    /// The line of a change. None where the base doesn't hold its object.
+    pub(crate) fn depth_line(self, change: DepthChange) -> Result<Option<DepthLine>, Memory>
+        ensures { IfOk result (λ line. line ≡ depth_line self.entry.live.now.base change.second
+            change.word.now change.object) }
+    {
+        self.depth_line_of(change, self.name_of(change.object))
+    }
+
+    fn depth_line_of(
+        self,
+        change: DepthChange,
+        name: Option<ObjectName<'_>>,
+    ) -> Result<Option<DepthLine>, Memory>
+        ensures { IfOk result (λ line. line
+            ≡ depth_line_of change.second change.word.now change.object
+            (option_map (λ name. line_names name.host.now name.service.now) name.entry)) }
+    {
+        let Some(name) = name else {
+            return Ok(None);
+        };
+        let entry = downtime_line(self.alloc, change, name)?;
+        Ok(Some(DepthLine {
+            object: change.object,
+            entry,
+        }))
     }
 }
 
-#[tactic(auto, unfolding(crate::specs::Effects::downtime_line))]
+#[tactic(auto, unfolding(crate::specs::Downtimes::downtime_line))]
 fn downtime_line(
     alloc: Global,
     change: DepthChange,
     name: ObjectName<'_>,
 ) -> Result<LogEntry, Memory>
-    ensures { IfOk result (λ entry. entry ≡ downtime_line change.second change.transition
+    ensures { IfOk result (λ entry. entry ≡ downtime_line change.second change.word.now
         (line_names name.entry.host.now name.entry.service.now)) }
 {
     let form = Form::Downtime {
         host: Text::new(alloc, name.host)?,
         service: Text::new(alloc, name.service)?,
-        word: Text::new(alloc, transition_word(change.transition))?,
+        word: Text::new(alloc, change.word)?,
     };
     make_line(alloc, change.second, &form)
-}
-
-/// The downtimes after all that are due at a second have begun or ended.
-#[tactic(auto, unfolding(crate::specs::StepEdits::stages_at))]
-pub(crate) fn stages_after_due(
-    alloc: Global,
-    second: u64,
-    downtimes: &[Downtime],
-) -> Result<Vec<Stage>, Memory>
-    ensures { IfOk result (λ found. found.items ≡ stages_at second (stages downtimes.now)) }
-{
-    let mut found = stages_of(alloc, downtimes)?;
-    let events = due(alloc, second, &found)?;
-    play_events(&events, &mut found);
-    Ok(found)
-}
-
-fn play_events(events: &[Event], downtimes: &mut Vec<Stage>)
-    ensures { downtimes.new.items ≡ stages_after_all events.now downtimes.old.items }
-{
-    for event in events {
-        event.play(downtimes);
-    }
 }

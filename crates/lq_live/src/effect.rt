@@ -1,7 +1,6 @@
 ghost use Rattle.std.specs.Prelude.{◌≡◌, ◌++◌, ◌∷◌, [], true, OnOk};
-ghost use Rattle.lq_live.specs.Effects.{is_of_switches, set_notifications};
 ghost use Rattle.lq_live.specs.Kept.{state_at};
-ghost use Rattle.lq_live.specs.StepEdits.{Adds, effect_in};
+ghost use Rattle.lq_live.specs.StepEdits.{Adds, effect_in, is_of_switches, notify_edits};
 
 use crate::context::StepContext;
 use crate::edit::Edit;
@@ -69,7 +68,7 @@ impl<'a> StepContext<'a> {
 
     fn set_notifications(self, edits: &mut Vec<Edit>, object: Object, on: u8) -> Result<(), Memory>
         ensures { OnOk result (Adds edits.old.items edits.new.items
-            (set_notifications object on (state_at self.entry.second self.entry.live.now))) }
+            (notify_edits object on (state_at self.entry.second self.entry.live.now))) }
     {
         if !self.holds(object) {
             return Ok(());

@@ -1,8 +1,11 @@
-ghost use Rattle.std.specs.Prelude.{◌≡◌, ◌++◌, ◌∷◌, ◌&&◌, nat_le, not, flat_map, drop, IfOk, OnOk};
-ghost use Rattle.lq_live.specs.Step.{transition_of};
-ghost use Rattle.lq_live.specs.Downtimes.{due, end_of, goes_before, goes_before_at_once, moments, only_if, ordered, placed, stages_after, start_of};
+ghost use Rattle.std.specs.Prelude.{◌≡◌, ◌++◌, ◌&&◌, nat_le, not, flat_map, IfOk, OnOk, IsSorted};
+ghost use Rattle.std.specs.List.Sorted.{IsPermutation};
+ghost use Rattle.lq_live.specs.Downtimes.{due, end_of, event_order, moments, only_if, start_of, word_of};
+ghost use Rattle.lq_live.specs.Ids.{HasRisingIds};
+ghost use Rattle.lq_live.specs.Kept.{state_of};
 
-use crate::stage::{Stage, begin_stage, remove_stage};
+use crate::context::StepContext;
+use lq_events::Downtime;
 use lq_records::{Memory, Object};
 use std::alloc::Global;
 
@@ -14,153 +17,115 @@ pub(crate) struct Event {
     pub(crate) starts: bool,
     /// The downtime's id.
     pub(crate) id: u64,
+    /// What the downtime is about.
     pub(crate) object: Object,
 }
 
-/// How the number of an object's active downtimes changes.
-#[derive(Clone, Copy)]
-pub(crate) enum DowntimeTransition {
-    Started,
-    Stopped,
-    Cancelled,
+/// What events are sorted by: the moment, ends before starts, then the id.
+#[derive(Clone, Copy, PartialEq, Eq, PartialOrd, Ord)]
+pub(crate) struct EventOrder {
+    moment: u64,
+    starts: bool,
+    id: u64,
 }
 
 impl Event {
-    fn start_of(stage: &Stage) -> Self
-        ensures { result ≡ start_of stage.now }
+    fn start_of(downtime: &Downtime) -> Self
+        ensures { result ≡ start_of downtime.now }
     {
         Event {
-            moment: stage.start,
+            moment: downtime.start,
             starts: true,
-            id: stage.id,
-            object: stage.object,
+            id: downtime.id,
+            object: downtime.object,
         }
     }
 
-    fn end_of(stage: &Stage) -> Self
-        ensures { result ≡ end_of stage.now }
+    fn end_of(downtime: &Downtime) -> Self
+        ensures { result ≡ end_of downtime.now }
     {
         Event {
-            moment: stage.end,
+            moment: downtime.end,
             starts: false,
-            id: stage.id,
-            object: stage.object,
+            id: downtime.id,
+            object: downtime.object,
         }
     }
 
-    /// Whether it comes before another: by moment, ends before starts, then by id.
-    fn goes_before(&self, other: &Self) -> bool
-        ensures { result ≡ goes_before self.now other.now }
+    fn order(&self) -> EventOrder
+        ensures { result
+            ≡ record { moment = self.now.moment; starts = self.now.starts; id = self.now.id } }
     {
-        if self.moment == other.moment {
-            self.goes_before_at_once(other)
-        } else {
-            self.moment < other.moment
+        EventOrder {
+            moment: self.moment,
+            starts: self.starts,
+            id: self.id,
         }
     }
 
-    fn goes_before_at_once(&self, other: &Self) -> bool
-        ensures { result ≡ goes_before_at_once self.now other.now }
+    /// The word of its line.
+    pub(crate) fn word(&self) -> &'static str
+        ensures { result.now ≡ word_of self.now }
     {
-        if self.starts {
-            other.starts && self.id < other.id
-        } else {
-            other.starts || self.id < other.id
-        }
-    }
-
-    /// How the number of its object's active downtimes changes.
-    pub(crate) fn transition(&self) -> DowntimeTransition
-        ensures { result ≡ transition_of self.now }
-    {
-        if self.starts {
-            DowntimeTransition::Started
-        } else {
-            DowntimeTransition::Stopped
-        }
-    }
-
-    /// What it leaves of the downtimes: a start makes its downtime active, an end removes it.
-    pub(crate) fn play(&self, downtimes: &mut Vec<Stage>)
-        ensures { downtimes.new.items ≡ stages_after self.now downtimes.old.items }
-    {
-        if self.starts {
-            begin_stage(downtimes, self.id);
-        } else {
-            remove_stage(downtimes, self.id);
-        }
+        if self.starts { "STARTED" } else { "STOPPED" }
     }
 }
 
-/// The starts and ends that are due at a second, in their order.
-#[tactic(auto, unfolding(crate::specs::Downtimes::due))]
-pub(crate) fn due(alloc: Global, second: u64, downtimes: &[Stage]) -> Result<Vec<Event>, Memory>
-    ensures { IfOk result (λ events. events.items ≡ due second downtimes.now) }
+impl<'a> StepContext<'a> {
+    /// The starts and ends that are due at the second, in their order.
+    pub(crate) fn due(self) -> Result<Vec<Event>, Memory>
+        requires { HasRisingIds (state_of self.live.now) }
+        ensures { IfOk result (λ events. events.items
+            ≡ due self.entry.second self.entry.live.now.downtimes.items) }
+    {
+        let mut events = all_moments(self.alloc, self.second, &self.live.downtimes)?;
+        sort(&mut events);
+        Ok(events)
+    }
+}
+
+fn sort(events: &mut Vec<Event>)
+    ensures each { IsPermutation events.old.items events.new.items }
+    ensures order { IsSorted event_order events.new.items }
 {
-    let events = all_moments(alloc, second, downtimes)?;
-    ordered(alloc, &events)
+    events.sort_unstable_by_key(|event| event.order());
 }
 
-fn all_moments(alloc: Global, second: u64, downtimes: &[Stage]) -> Result<Vec<Event>, Memory>
+fn all_moments(alloc: Global, second: u64, downtimes: &[Downtime]) -> Result<Vec<Event>, Memory>
     ensures { IfOk result (λ events. events.items ≡ flat_map (moments second) downtimes.now) }
 {
     let mut events = Vec::new(alloc);
-    for stage in downtimes {
-        push_moments(&mut events, second, stage)?;
+    for downtime in downtimes {
+        push_moments(&mut events, second, downtime)?;
     }
     Ok(events)
 }
 
-fn push_moments(events: &mut Vec<Event>, second: u64, stage: &Stage) -> Result<(), Memory>
-    ensures { OnOk result (events.new.items ≡ events.old.items ++ moments second stage.now) }
+fn push_moments(events: &mut Vec<Event>, second: u64, downtime: &Downtime) -> Result<(), Memory>
+    ensures { OnOk result (events.new.items ≡ events.old.items ++ moments second downtime.now) }
 {
-    push_start(events, second, stage)?;
-    push_end(events, second, stage)
+    push_start(events, second, downtime)?;
+    push_end(events, second, downtime)
 }
 
-fn push_start(events: &mut Vec<Event>, second: u64, stage: &Stage) -> Result<(), Memory>
+fn push_start(events: &mut Vec<Event>, second: u64, downtime: &Downtime) -> Result<(), Memory>
     ensures { OnOk result (events.new.items ≡ events.old.items ++ only_if
-        (not stage.now.active && nat_le stage.now.start second) (start_of stage.now)) }
+        (not downtime.now.active && nat_le downtime.now.start second) (start_of downtime.now)) }
 {
-    if stage.active || stage.start > second {
+    if downtime.active || downtime.start > second {
         return Ok(());
     }
-    events.push(Event::start_of(stage))?;
+    events.push(Event::start_of(downtime))?;
     Ok(())
 }
 
-fn push_end(events: &mut Vec<Event>, second: u64, stage: &Stage) -> Result<(), Memory>
-    ensures { OnOk result (events.new.items
-        ≡ events.old.items ++ only_if (nat_le stage.now.end second) (end_of stage.now)) }
+fn push_end(events: &mut Vec<Event>, second: u64, downtime: &Downtime) -> Result<(), Memory>
+    ensures { OnOk result (events.new.items ≡ events.old.items
+        ++ only_if (nat_le downtime.now.end second) (end_of downtime.now)) }
 {
-    if stage.end > second {
+    if downtime.end > second {
         return Ok(());
     }
-    events.push(Event::end_of(stage))?;
-    Ok(())
-}
-
-/// The events in their order.
-fn ordered(alloc: Global, events: &[Event]) -> Result<Vec<Event>, Memory>
-    ensures { IfOk result (λ found. found.items ≡ ordered events.now) }
-{
-    let mut found = Vec::new(alloc);
-    let mut i = events.len();
-    'events: while i > 0 {
-        i -= 1;
-        place(&mut found, events[i])?;
-    }
-    Ok(found)
-}
-
-/// Puts an event before the first one that it goes before.
-fn place(events: &mut Vec<Event>, event: Event) -> Result<(), Memory>
-    ensures { OnOk result (events.new.items ≡ placed event events.old.items) }
-{
-    let mut i = 0;
-    'places: while i < events.len() && !event.goes_before(&events[i]) {
-        i += 1;
-    }
-    events.insert(i, event)?;
+    events.push(Event::end_of(downtime))?;
     Ok(())
 }

@@ -14,7 +14,6 @@ mod event;
 mod live;
 mod live_state;
 mod names;
-mod stage;
 mod step;
 
 pub use live::Live;

@@ -4,11 +4,12 @@ ghost use Rattle.std.specs.Option.{option_copied};
 ghost use Rattle.lq_live.specs.Ids.{IdsRise, comment_id, downtime_id};
 ghost use Rattle.lq_live.specs.Kept.{IsIndexed, state_of};
 ghost use Rattle.lq_live.specs.State.{Counted, opened, pending};
-ghost use Rattle.lq_live.specs.Step.{step};
+ghost use Rattle.lq_live.specs.Downtimes.{IsDue, due};
+ghost use Rattle.lq_live.specs.Step.{second_after, step};
 
+use crate::downtimes::first_moment;
 use crate::edit::{play, reserve};
 use crate::live_state::LiveState;
-use crate::stage::first_moment;
 use crate::step::step_edits;
 use lq_events::{Comment, Downtime, Status, Update};
 use lq_log::LogBook;
@@ -70,6 +71,8 @@ impl Live {
     pub fn apply(&mut self, u: &Update) -> Result<(), Memory>
         ensures ok { OnOk result (self.new
             ≡ record { state = step self.old.state u.now; count = self.old.count + 1 }) }
+        ensures due { IsDue (second_after self.old.state u.now) self.old.state.downtimes
+            (due (second_after self.old.state u.now) self.old.state.downtimes) }
         ensures err { OnErr result (self.new ≡ self.old) }
     {
         let edits = step_edits(self.alloc, &self.state, u)?;

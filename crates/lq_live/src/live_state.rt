@@ -1,5 +1,5 @@
 ghost use Rattle.std.specs.Prelude.{◌≡◌, ◌++◌, ◌∷◌, ◌≤◌, [], filter, not, map, OnOk};
-ghost use Rattle.lq_live.specs.Edits.{acknowledged_as};
+ghost use Rattle.lq_live.specs.Effects.{acknowledge_as};
 ghost use Rattle.lq_live.specs.State.{changed_at};
 
 use lq_events::{Comment, Downtime, Status};
@@ -35,7 +35,7 @@ pub(crate) fn set_status(list: &mut [Status], place: usize, status: Status)
 
 /// Acknowledges at a place: 0 not at all, 1 normally, 2 sticky.
 pub(crate) fn set_acknowledgement(list: &mut [Status], place: usize, kind: u8)
-    ensures { list.new ≡ changed_at (acknowledged_as kind) place list.old }
+    ensures { list.new ≡ changed_at (acknowledge_as kind) place list.old }
 {
     if place < list.len() {
         let status = &mut list[place];

@@ -1,14 +1,13 @@
 ghost use Rattle.std.specs.Prelude.{◌≡◌, ◌++◌, OnOk, IfOk};
 ghost use Rattle.lq_log.specs.Written.{written};
 ghost use Rattle.lq_log.specs.declared.written.Form.TheVariants as form;
-ghost use Rattle.lq_live.specs.Downtimes.{stages};
+ghost use Rattle.lq_live.specs.Ids.{HasRisingIds};
 ghost use Rattle.lq_live.specs.Kept.{IsIndexed, state_of};
 ghost use Rattle.lq_live.specs.StepEdits.{Adds, advance_edits, edits_at, step_edits};
 
 use crate::context::StepContext;
 use crate::edit::Edit;
 use crate::live_state::LiveState;
-use crate::stage::stages_of;
 use lq_events::{LogEntry, Update};
 use lq_log::{Form, TIME_LIMIT, make_line};
 use lq_records::{Memory, Text};
@@ -21,7 +20,8 @@ pub(crate) fn step_edits(
     live: &LiveState,
     update: &Update,
 ) -> Result<Vec<Edit>, Memory>
-    requires { IsIndexed live.now }
+    requires index { IsIndexed live.now }
+    requires ids { HasRisingIds (state_of live.now) }
     ensures { IfOk result (λ edits. edits.items ≡ step_edits (state_of live.now) update.now) }
 {
     let second = live.present.max(update.time.min(TIME_LIMIT - 1));
@@ -35,7 +35,8 @@ pub(crate) fn step_edits(
 
 impl<'a> StepContext<'a> {
     fn edits(self, update: &Update) -> Result<Vec<Edit>, Memory>
-        requires { IsIndexed self.live.now }
+        requires index { IsIndexed self.live.now }
+        requires ids { HasRisingIds (state_of self.live.now) }
         ensures { IfOk result (λ edits. edits.items
             ≡ edits_at self.entry.second (state_of self.entry.live.now) update.now) }
     {
@@ -50,16 +51,16 @@ impl<'a> StepContext<'a> {
 
     /// Adds the edits of the downtimes that are due.
     fn advance(self, edits: &mut Vec<Edit>) -> Result<(), Memory>
-        requires { IsIndexed self.live.now }
+        requires index { IsIndexed self.live.now }
+        requires ids { HasRisingIds (state_of self.live.now) }
         ensures { OnOk result (Adds edits.old.items edits.new.items
             (advance_edits self.entry.live.now.base self.entry.second
-            (stages self.entry.live.now.downtimes.items))) }
+            self.entry.live.now.downtimes.items)) }
     {
         if self.second < self.live.next_moment {
             return Ok(());
         }
-        let mut downtimes = stages_of(self.alloc, &self.live.downtimes)?;
-        self.push_due(edits, &mut downtimes)
+        self.push_due(edits)
     }
 
     /// The line of an external command.

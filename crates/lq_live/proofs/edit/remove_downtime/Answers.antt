@@ -1,5 +1,5 @@
 use Rattle.std.proofs.Common.{not}
-use Rattle.lq_live.specs.Edits.{is_named}
+use Rattle.lq_live.specs.Effects.{is_named}
 use Rattle.lq_live.proofs.Ahead.{filter_from}
 use Rattle.lq_live.proofs.edit.remove_downtime.Goals as goal
 

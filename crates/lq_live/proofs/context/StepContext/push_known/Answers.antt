@@ -1,5 +1,4 @@
-use Rattle.std.proofs.Common.{◌∙◌, ◌++◌, append_assoc, w64}
-use Rattle.std.proofs.Math.Facts.{to_z-of_z}
+use Rattle.std.proofs.Common.{◌∙◌, ◌++◌, append_assoc}
 use Rattle.lq_live.proofs.context.StepContext.push_known.Goals as goal
 
 pub returns : goal.returns

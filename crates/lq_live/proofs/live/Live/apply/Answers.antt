@@ -2,6 +2,7 @@ use Rattle.std.proofs.Common.{◌≡◌, ◌∙◌, ◌+◌, ap, arith, length}
 use Rattle.lq_live.specs.Kept.{state_of}
 use Rattle.lq_live.specs.Step.{step}
 use Rattle.lq_live.proofs.Apply.{step_for, timely_for}
+use Rattle.lq_live.proofs.DueEvents.{due_is}
 use Rattle.lq_live.proofs.Kept.{step_kept, step_longer}
 use Rattle.lq_live.proofs.live.Live.apply.Goals as goal
 
@@ -28,3 +29,12 @@ pub returns-clause-ok : goal.returns-clause-ok
 returns-clause-ok c =
     ap (λ state. record { state = state; count = c.self.inside.count + 1 }) (next c)
     ∙ ap (λ live. record { state = step live.state c.args.u.now; count = live.count + 1 }) c.self.view_is
+
+pub returns-clause-due : goal.returns-clause-due
+returns-clause-due c = due_is _ _
+
+pub returns-in_err-edits-clause-due : goal.returns-in_err-edits-clause-due
+returns-in_err-edits-clause-due c = due_is _ _
+
+pub returns-in_err-reserve-clause-due : goal.returns-in_err-reserve-clause-due
+returns-in_err-reserve-clause-due c = due_is _ _

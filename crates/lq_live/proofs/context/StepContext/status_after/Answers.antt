@@ -1,10 +1,10 @@
 use Rattle.std.proofs.Common.{refl, rules, w64}
 use Rattle.std.proofs.Math.Facts.{to_z-of_z}
-use Rattle.lq_live.specs.Results.{recorded}
-use Rattle.lq_live.proofs.context.StepContext.recorded.Goals as goal
+use Rattle.lq_live.specs.Results.{status_after}
+use Rattle.lq_live.proofs.context.StepContext.status_after.Goals as goal
 
 pub returns : goal.returns
-unfolding recorded
+unfolding status_after
 returns c =
     rw (
       c.in_ok-status.ensures,

@@ -1,6 +1,6 @@
 use Rattle.std.proofs.Common.{◌≡◌, ◌≤◌, length, drop}
 use Rattle.lq_live.specs.Kept.{first_of}
-use Rattle.lq_live.proofs.stage.first_of.Given as goal
+use Rattle.lq_live.proofs.downtimes.first_of.Given as goal
 
 abbrev pub invariant-downtimes : goal.invariant-downtimes
 invariant-downtimes l = record {

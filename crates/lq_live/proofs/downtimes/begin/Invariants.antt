@@ -1,6 +1,0 @@
-use Rattle.std.proofs.Common.{◌≡◌, ◌++◌, take, drop, map}
-use Rattle.lq_live.specs.Downtimes.{begun}
-use Rattle.lq_live.proofs.downtimes.begin.Given as goal
-
-abbrev pub invariant-loop-downtime : goal.invariant-loop-downtime
-invariant-loop-downtime l = take l.downtime-index l.downtimes ++ map (begun l.id) (drop l.downtime-index l.downtimes) ≡ map (begun l.id) l.initial.downtimes
