@@ -1,6 +1,7 @@
 -- What is due stands in the one order that it can have.
-use Rattle.std.proofs.Common.{◌≡◌, ℕ, zero, suc, ◌+◌, ◌<◌, ◌≤◌, ◌==◌, ◌&&◌, nat_le, not, Bool, true, false, Option, Some, None, List, [], ◌∷◌, ◌++◌, length, flat_map, refl, sym, ap, ◌∙◌, arith, Ordering, Less, Equal, Greater, is_lt, nat_cmp, true≢false, IsPermutation, IsSorted, if◌then◌else◌}
-use Rattle.std.specs.List.{AllAdjacentBelow, AllByRecursion}
+use Rattle.std.proofs.Common.{◌≡◌, ℕ, zero, suc, ◌+◌, ◌<◌, ◌≤◌, ◌==◌, ◌&&◌, nat_le, not, Bool, true, false, Option, Some, None, List, [], ◌∷◌, ◌++◌, length, flat_map, refl, sym, ap, ◌∙◌, arith, Ordering, Less, Equal, Greater, is_lt, nat_cmp, true≢false, IsPermutation, IsSorted}
+use Rattle.std.specs.List.{AllAdjacentBelow, AllByRecursion, find}
+use Rattle.std.specs.Option.{option_map}
 use Rattle.std.specs.Cmp.{IsTotalOrder, bool_cmp_total, ranked}
 use Rattle.std.specs.Ordering.{bool_cmp, is_gt, ordering_then}
 use Rattle.std.proofs.lemmas.Bool.Decides.{nat_tests}
@@ -34,14 +35,29 @@ bool_equal true false is = absurd (true≢false (ap is_gt is))
 bool_equal false true is = absurd (true≢false (ap is_lt is))
 bool_equal false false is = refl
 
--- ---- each event's object is that of the downtime with its id
+-- ---- each downtime is the one with its id, and each event's object is that of the downtime with its id
 
-abbrev object_in : ℕ → List Downtime → Option Object
-object_in id [] = None
-object_in id (d ∷ ds) = if d.id == id then Some d.object else object_in id ds
+abbrev pub with_id : ℕ → List Downtime → Option Downtime
+with_id id ds = find (λ d. d.id == id) ds
+
+-- the downtimes of a list are those that another has with their ids
+abbrev pub AreKnown : List Downtime → List Downtime → Type 0
+AreKnown ds = AllByRecursion (λ d. with_id d.id ds ≡ Some d)
+
+known_behind : (d : Downtime) (least next : ℕ) (ds more : List Downtime) → d.id < least → IdsRise downtime_id least next more → AreKnown ds more → AreKnown (d ∷ ds) more
+known_behind d least next ds [] below rise known = tt
+known_behind d least next ds (e ∷ more) below rise known =
+    let other : (d.id == e.id) ≡ false = grind (arith, nat_tests, below, rise.0) in
+    (rw other known.0, known_behind d (e.id + 1) next ds more (omega (arith, below, rise.0)) rise.2 known.1)
+
+pub all_known : (least next : ℕ) (ds : List Downtime) → IdsRise downtime_id least next ds → AreKnown ds ds
+all_known least next [] rise = tt
+all_known least next (d ∷ ds) rise =
+    let own : (d.id == d.id) ≡ true = grind (arith, nat_tests) in
+    (rw own refl, known_behind d (d.id + 1) next ds ds (omega arith) rise.2 (all_known (d.id + 1) next ds rise.2))
 
 abbrev IsKnown : List Downtime → Event → Type 0
-IsKnown ds event = object_in event.id ds ≡ Some event.object
+IsKnown ds event = option_map (λ d. d.object) (with_id event.id ds) ≡ Some event.object
 
 some_object : (a b : Object) → Some a ≡ Some b → a ≡ b
 some_object a b is = ap (λ found. elim found as (λ _. Object) [ Some object ↦ object | None ↦ a ]) is
@@ -53,41 +69,33 @@ same_event ds a b known_a known_b tie =
     let moment : a.moment ≡ b.moment = nat_equal a.moment b.moment first.0 in
     let starts : a.starts ≡ b.starts = bool_equal a.starts b.starts next.0 in
     let id : a.id ≡ b.id = nat_equal a.id b.id next.1 in
-    let object : a.object ≡ b.object = some_object a.object b.object (sym known_a ∙ ap (λ id. object_in id ds) id ∙ known_b) in
+    let object : a.object ≡ b.object = some_object a.object b.object (sym known_a ∙ ap (λ id. option_map (λ d. d.object) (with_id id ds)) id ∙ known_b) in
     λ i. record { moment = moment i; starts = starts i; id = id i; object = object i }
-
--- the downtimes of a list have their objects in another
-abbrev AreKnown : List Downtime → List Downtime → Type 0
-AreKnown ds = AllByRecursion (λ d. object_in d.id ds ≡ Some d.object)
-
-known_behind : (d : Downtime) (least next : ℕ) (ds more : List Downtime) → d.id < least → IdsRise downtime_id least next more → AreKnown ds more → AreKnown (d ∷ ds) more
-known_behind d least next ds [] below rise known = tt
-known_behind d least next ds (e ∷ more) below rise known =
-    let other : (d.id == e.id) ≡ false = grind (arith, nat_tests, below, rise.0) in
-    (rw other known.0, known_behind d (e.id + 1) next ds more (omega (arith, below, rise.0)) rise.2 known.1)
-
-all_known : (least next : ℕ) (ds : List Downtime) → IdsRise downtime_id least next ds → AreKnown ds ds
-all_known least next [] rise = tt
-all_known least next (d ∷ ds) rise =
-    let own : (d.id == d.id) ≡ true = grind (arith, nat_tests) in
-    (rw own refl, known_behind d (d.id + 1) next ds ds (omega arith) rise.2 (all_known (d.id + 1) next ds rise.2))
 
 all_append : (P : Event → Type 0) (a b : List Event) → AllByRecursion P a → AllByRecursion P b → AllByRecursion P (a ++ b)
 all_append P [] b all more = more
 all_append P (event ∷ a) b all more = (all.0, all_append P a b all.1 more)
 
-all_only_if : (P : Event → Type 0) (test : Bool) (event : Event) → P event → AllByRecursion P (only_if test event)
-all_only_if P true event is = (is, tt)
+all_only_if : (P : Event → Type 0) (test : Bool) (event : Event) → (test ≡ true → P event) → AllByRecursion P (only_if test event)
+all_only_if P true event is = (is refl, tt)
 all_only_if P false event is = tt
+
+-- what each downtime has due has a property
+pub all_moments : (P : Event → Type 0) (second : ℕ) (d : Downtime) (rest : List Event)
+    → ((not d.active && nat_le d.start second) ≡ true → P (start_of d)) → (nat_le d.end second ≡ true → P (end_of d))
+    → AllByRecursion P rest → AllByRecursion P (moments second d ++ rest)
+all_moments P second d rest start end more =
+    all_append P (moments second d) rest
+    (all_append P (only_if (not d.active && nat_le d.start second) (start_of d)) (only_if (nat_le d.end second) (end_of d))
+    (all_only_if P (not d.active && nat_le d.start second) (start_of d) start)
+    (all_only_if P (nat_le d.end second) (end_of d) end))
+    more
 
 moments_known : (second : ℕ) (ds more : List Downtime) → AreKnown ds more → AllByRecursion (IsKnown ds) (flat_map (moments second) more)
 moments_known second ds [] known = tt
 moments_known second ds (d ∷ more) known =
-    all_append (IsKnown ds) (moments second d) (flat_map (moments second) more)
-    (all_append (IsKnown ds) (only_if (not d.active && nat_le d.start second) (start_of d)) (only_if (nat_le d.end second) (end_of d))
-    (all_only_if (IsKnown ds) (not d.active && nat_le d.start second) (start_of d) known.0)
-    (all_only_if (IsKnown ds) (nat_le d.end second) (end_of d) known.0))
-    (moments_known second ds more known.1)
+    let object : option_map (λ d. d.object) (with_id d.id ds) ≡ Some d.object = ap (option_map (λ d. d.object)) known.0 in
+    all_moments (IsKnown ds) second d (flat_map (moments second) more) (λ _. object) (λ _. object) (moments_known second ds more known.1)
 
 pub due_sorted : (second : ℕ) (s : State) (events : List Event) → HasRisingIds s → IsPermutation (flat_map (moments second) s.downtimes) events
     → IsSorted event_order events → events ≡ due second s.downtimes

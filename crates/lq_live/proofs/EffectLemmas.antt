@@ -124,6 +124,7 @@ new_downtime : (new : NewDowntime) (s : State) → (new.start < new.end) × (s.n
 new_downtime new s ends = record {
   order = ends.0;
   ahead = record { end = ends.1; start = λ inactive. later_start s.now new.start inactive };
+  begun = λ active. grind (arith, nat_tests, active);
 }
 
 both_true : (a b : Bool) → (a && b) ≡ true → b ≡ true

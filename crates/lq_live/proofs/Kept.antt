@@ -20,13 +20,14 @@ use Rattle.lq_live.specs.Edits.{depth_in, make_edit, play_edits, written_lines}
 use Rattle.lq_live.specs.StepEdits.{advance_edits, effect_edits, event_edit, step_edits}
 use Rattle.lq_live.specs.Order.{EditAt, EditsAt, LineAt, LinesUpTo, Rising, additions, after_all, all_additions, due_lines}
 use Rattle.lq_live.specs.Ids.{HasRisingIds}
-use Rattle.lq_live.specs.Kept.{AllFrom, AllOrdered, IsKept, Timely, at_second}
+use Rattle.lq_live.specs.Kept.{AllBegun, AllFrom, AllOrdered, IsKept, Timely, at_second}
 use Rattle.lq_live.specs.Step.{second_after, step}
 use Rattle.lq_live.specs.declared.event.Event.{Event}
 use Rattle.lq_live.specs.declared.edit.DepthLine.{DepthLine}
 use Rattle.lq_live.specs.declared.edit.Edit.{Edit}
 use Rattle.lq_live.specs.declared.edit.Edit.TheVariants as edit
 use Rattle.lq_live.proofs.Ahead.{added_from, filter_from}
+use Rattle.lq_live.proofs.Begun.{added_begun, due_begun, filter_begun}
 use Rattle.lq_live.proofs.Covered.{nothing_left}
 use Rattle.lq_live.proofs.IdLemmas.{effect_given, ids_played, ids_ready}
 use Rattle.lq_live.proofs.EffectLemmas.{IsEffect, at_timely, effect_is}
@@ -84,6 +85,7 @@ pub record IsOf (second count least : ℕ) (s : State) : Type 0 where
   pub lines : last_time s.log ≤ second
   pub ahead : AllFrom (second + 1) s.downtimes
   pub order : AllOrdered s.downtimes
+  pub begun : AllBegun second s.downtimes
   pub downtime_ids : s.next_downtime + count ≤ length s.log + 1
   pub comment_ids : s.next_comment + count ≤ length s.log + 1
   pub longer : least ≤ length s.log
@@ -99,6 +101,7 @@ same_fields second count least s t hosts services base now log downtimes next_do
   lines = rw log of.lines;
   ahead = rw downtimes of.ahead;
   order = rw downtimes of.order;
+  begun = rw downtimes of.begun;
   downtime_ids = rw (next_downtime, log) (omega (arith, of.downtime_ids));
   comment_ids = rw (next_comment, log) (omega (arith, of.comment_ids));
   longer = rw log of.longer;
@@ -137,6 +140,7 @@ of_edited second count least (edit.Line entry) s at of = record {
   lines = last_up_to second s.log (entry ∷ []) of.lines (omega (arith, at.0), tt);
   ahead = of.ahead;
   order = of.order;
+  begun = of.begun;
   downtime_ids = grind (arith, length-append s.log (entry ∷ []), of.downtime_ids);
   comment_ids = grind (arith, length-append s.log (entry ∷ []), of.comment_ids);
   longer = grind (arith, length-append s.log (entry ∷ []), of.longer);
@@ -153,6 +157,7 @@ of_edited second count least (edit.AddComment comment) s at of = record {
   lines = of.lines;
   ahead = of.ahead;
   order = of.order;
+  begun = of.begun;
   downtime_ids = omega (arith, of.downtime_ids);
   comment_ids = omega (arith, of.comment_ids);
   longer = of.longer;
@@ -168,6 +173,7 @@ of_edited second count least (edit.AddDowntime downtime line) s at of =
       lines = last_up_to second s.log lines of.lines (written_up_to second line _ _ at.0);
       ahead = added_from (second + 1) downtime s.downtimes of.ahead at.1.ahead;
       order = ordered_added downtime s.downtimes at.1.order of.order;
+      begun = added_begun second downtime s.downtimes of.begun at.1.begun;
       downtime_ids = omega (arith, of.downtime_ids, length-append s.log lines);
       comment_ids = omega (arith, of.comment_ids, length-append s.log lines);
       longer = omega (arith, of.longer, length-append s.log lines);
@@ -182,6 +188,7 @@ of_edited second count least (edit.RemoveDowntime kind id line) s at of =
       lines = last_up_to second s.log lines of.lines (written_up_to second line _ _ at.0);
       ahead = filter_from (second + 1) (λ downtime. not (is_named kind id downtime.id downtime.object)) s.downtimes of.ahead;
       order = ordered_filter (λ downtime. not (is_named kind id downtime.id downtime.object)) s.downtimes of.order;
+      begun = filter_begun second (λ downtime. not (is_named kind id downtime.id downtime.object)) s.downtimes of.begun;
       downtime_ids = omega (arith, of.downtime_ids, length-append s.log lines);
       comment_ids = omega (arith, of.comment_ids, length-append s.log lines);
       longer = omega (arith, of.longer, length-append s.log lines);
@@ -215,6 +222,7 @@ of_ready s update kept =
           (last_up_to second s.log lines (omega (arith, kept.lines, later)) (due_lines_up_to s.now second s.base events s.downtimes rising)) (omega arith, tt);
       ahead = nothing_left second s.downtimes;
       order = ordered_after events s.downtimes kept.order;
+      begun = due_begun s.now second s.next_downtime s.downtimes later kept.ids.downtimes kept.begun;
       downtime_ids = rw longer (omega (arith, kept.downtime_ids));
       comment_ids = rw longer (omega (arith, kept.comment_ids));
       longer = rw longer (omega arith);
@@ -228,6 +236,7 @@ fewer second more less least s low of = record {
   lines = of.lines;
   ahead = of.ahead;
   order = of.order;
+  begun = of.begun;
   downtime_ids = omega (arith, low, of.downtime_ids);
   comment_ids = omega (arith, low, of.comment_ids);
   longer = of.longer;
@@ -259,11 +268,16 @@ step_kept s update kept =
       lines = rw of.now of.lines;
       ahead = rw of.now of.ahead;
       order = of.order;
+      begun = rw of.now of.begun;
       second = rw of.now (second_below s.now update.time kept.second);
       downtime_ids = omega (arith, of.downtime_ids);
       comment_ids = omega (arith, of.comment_ids);
       ids = step_ids s update kept.ids;
     }
+
+-- the second doesn't go back
+pub step_later : (s : State) (update : Update) → IsKept s → s.now ≤ (step s update).now
+step_later s update kept = rw (of_step s update kept).now (omega arith)
 
 -- a step writes a line
 pub step_longer : (s : State) (update : Update) → IsKept s → length s.log + 1 ≤ length (step s update).log

@@ -8,5 +8,7 @@ pub mod Rising
 pub mod Covered
 pub mod EffectLemmas
 pub mod IdLemmas
+pub mod Begun
 pub mod Kept
+pub mod Front
 pub mod Apply

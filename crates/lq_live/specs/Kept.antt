@@ -1,5 +1,5 @@
 -- The state that the code holds, and what it keeps.
-use Rattle.std.specs.Prelude.{◌≡◌, ℕ, ◌+◌, ◌-◌, min, if◌then◌else◌, ◌<◌, ◌≤◌, ◌^◌, false, Option, Some, None, List, [], ◌∷◌, length, vec_len, vec_capacity}
+use Rattle.std.specs.Prelude.{◌≡◌, ℕ, ◌+◌, ◌-◌, min, if◌then◌else◌, ◌<◌, ◌≤◌, ◌^◌, true, false, Option, Some, None, List, [], ◌∷◌, length, vec_len, vec_capacity}
 use Rattle.lq_events.specs.declared.log_entry.LogEntry.{LogEntry}
 use Rattle.lq_events.specs.declared.status.Downtime.{Downtime}
 use Rattle.lq_log.specs.declared.book.TheConstants.{TIME_LIMIT}
@@ -56,6 +56,12 @@ abbrev pub AllOrdered : List Downtime → Type 0
 AllOrdered [] = Unit {0}
 AllOrdered (downtime ∷ downtimes) = (downtime.start < downtime.end) × AllOrdered downtimes
 
+-- each downtime that is active has begun
+abbrev pub AllBegun : ℕ → List Downtime → Type 0
+AllBegun second [] = Unit {0}
+AllBegun second (downtime ∷ downtimes) =
+    (downtime.active ≡ true → downtime.start ≤ second) × AllBegun second downtimes
+
 -- Each object has a status. The last line isn't past the present second, all that is to come of the
 -- downtimes is, the second can be written, no id passes the number of lines by more than one, and
 -- none is given twice.
@@ -65,6 +71,7 @@ pub record IsKept (s : State) : Type 0 where
   pub lines : last_time s.log ≤ s.now
   pub ahead : AllFrom (s.now + 1) s.downtimes
   pub order : AllOrdered s.downtimes
+  pub begun : AllBegun s.now s.downtimes
   pub second : s.now < TIME_LIMIT
   pub downtime_ids : s.next_downtime ≤ length s.log + 1
   pub comment_ids : s.next_comment ≤ length s.log + 1

@@ -4,6 +4,7 @@ pub mod Downtimes
 pub mod Effects
 pub mod Step
 pub mod Ids
+pub mod Always
 pub mod Kept
 pub mod Edits
 pub mod StepEdits

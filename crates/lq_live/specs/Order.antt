@@ -51,10 +51,12 @@ abbrev pub LinesUpTo : ℕ → List LogEntry → Type 0
 LinesUpTo second [] = Unit {0}
 LinesUpTo second (entry ∷ entries) = (entry.time ≤ second) × LinesUpTo second entries
 
--- what is still to come of a new downtime lies past a second, and it begins before it ends
+-- What is still to come of a new downtime lies past a second, it begins before it ends, and it is
+-- active only where it has begun.
 pub record IsNew (second : ℕ) (downtime : Downtime) : Type 0 where
   pub order : downtime.start < downtime.end
   pub ahead : IsFrom (second + 1) downtime
+  pub begun : downtime.active ≡ true → downtime.start ≤ second
 
 abbrev pub LineAt : ℕ → Option LogEntry → Type 0
 LineAt second None = Unit {0}

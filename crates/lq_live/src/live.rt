@@ -1,9 +1,11 @@
-ghost use Rattle.std.specs.Prelude.{◌≡◌, [], Some, ◌+◌, ◌<◌, ◌≤◌, IfOk, OnOk, OnErr, length, map};
+ghost use Rattle.std.specs.Prelude.{All, ◌≡◌, [], Some, ◌+◌, ◌<◌, ◌≤◌, IfOk, OnOk, OnErr, length, map};
 ghost use Rattle.std.specs.List.{slice_get};
 ghost use Rattle.std.specs.Option.{option_copied};
 ghost use Rattle.lq_live.specs.Ids.{IdsRise, comment_id, downtime_id};
 ghost use Rattle.lq_live.specs.Kept.{IsIndexed, state_of};
 ghost use Rattle.lq_live.specs.State.{Counted, opened, pending};
+ghost use Rattle.lq_log.specs.Book.{last_time};
+ghost use Rattle.lq_live.specs.Always.{IsCurrent, IsFront};
 ghost use Rattle.lq_live.specs.Downtimes.{IsDue, due};
 ghost use Rattle.lq_live.specs.Step.{second_after, step};
 
@@ -73,6 +75,8 @@ impl Live {
             ≡ record { state = step self.old.state u.now; count = self.old.count + 1 }) }
         ensures due { IsDue (second_after self.old.state u.now) self.old.state.downtimes
             (due (second_after self.old.state u.now) self.old.state.downtimes) }
+        ensures second { self.old.state.now ≤ self.new.state.now }
+        ensures front { IsFront self.old.state.log self.new.state.log }
         ensures err { OnErr result (self.new ≡ self.old) }
     {
         let edits = step_edits(self.alloc, &self.state, u)?;
@@ -104,9 +108,10 @@ impl Live {
         &self.state.base
     }
 
-    /// The log of all steps.
+    /// The log of all steps. Its last line is no later than the present second.
     pub fn log(&self) -> &LogBook
-        ensures { result.now.entries ≡ self.now.state.log }
+        ensures all { result.now.entries ≡ self.now.state.log }
+        ensures last { last_time self.now.state.log ≤ self.now.state.now }
     {
         &self.state.log
     }
@@ -129,14 +134,16 @@ impl Live {
 
     /// The statuses of the hosts, in the order of the base.
     pub fn host_statuses(&self) -> &[Status]
-        ensures { result.now ≡ self.now.state.host_status }
+        ensures all { result.now ≡ self.now.state.host_status }
+        ensures count { length result.now ≡ length self.now.state.base.hosts }
     {
         &self.state.host_status
     }
 
     /// The statuses of the services, in the order of the base.
     pub fn service_statuses(&self) -> &[Status]
-        ensures { result.now ≡ self.now.state.service_status }
+        ensures all { result.now ≡ self.now.state.service_status }
+        ensures count { length result.now ≡ length self.now.state.base.services }
     {
         &self.state.service_status
     }
@@ -148,10 +155,12 @@ impl Live {
         self.state.notifications
     }
 
-    /// The downtimes, in order of their ids. No two have the same.
+    /// The downtimes, in order of their ids. No two have the same. Each begins before it ends, ends
+    /// later than the present second, and is active exactly where it has begun.
     pub fn downtimes(&self) -> &[Downtime]
         ensures all { result.now ≡ self.now.state.downtimes }
         ensures ids { IdsRise downtime_id 0 self.now.state.next_downtime result.now }
+        ensures current { All (IsCurrent self.now.state.now) result.now }
     {
         &self.state.downtimes
     }

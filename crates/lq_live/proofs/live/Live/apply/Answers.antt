@@ -1,9 +1,12 @@
-use Rattle.std.proofs.Common.{◌≡◌, ◌∙◌, ◌+◌, ap, arith, length}
+use Rattle.std.proofs.Common.{◌≡◌, ◌∙◌, ◌+◌, sym, subst, ap, arith, length}
 use Rattle.lq_live.specs.Kept.{state_of}
+use Rattle.lq_live.specs.Always.{IsFront}
+use Rattle.lq_live.specs.State.{Counted, State}
 use Rattle.lq_live.specs.Step.{step}
 use Rattle.lq_live.proofs.Apply.{step_for, timely_for}
 use Rattle.lq_live.proofs.DueEvents.{due_is}
-use Rattle.lq_live.proofs.Kept.{step_kept, step_longer}
+use Rattle.lq_live.proofs.Front.{step_front}
+use Rattle.lq_live.proofs.Kept.{step_kept, step_later, step_longer}
 use Rattle.lq_live.proofs.live.Live.apply.Goals as goal
 
 pub play-requires-clause-timely : goal.play-requires-clause-timely
@@ -38,3 +41,16 @@ returns-in_err-edits-clause-due c = due_is _ _
 
 pub returns-in_err-reserve-clause-due : goal.returns-in_err-reserve-clause-due
 returns-in_err-reserve-clause-due c = due_is _ _
+
+pub returns-clause-second : goal.returns-clause-second
+returns-clause-second c = omega (
+  arith,
+  step_later (state_of c.self.inside.state) c.args.u.now c.self.invariant.state,
+  ap (λ (s : State). s.now) (next c),
+  ap (λ (live : Counted). live.state.now) c.self.view_is,
+)
+
+pub returns-clause-front : goal.returns-clause-front
+returns-clause-front c =
+    subst (λ log. IsFront log c.look_ahead.new.live.log.entries) (ap (λ (live : Counted). live.state.log) c.self.view_is)
+    (subst (λ (s : State). IsFront c.self.inside.state.log.entries s.log) (sym (next c)) (step_front (state_of c.self.inside.state) c.args.u.now))

@@ -1,0 +1,52 @@
+-- A step adds lines at the end of the log, and the second doesn't go back.
+use Rattle.std.proofs.Common.{List, [], ◌∷◌, ◌++◌, sym, ap, ◌∙◌, subst, append-nil, append_assoc}
+use Rattle.lq_records.specs.declared.object.Object.{Object}
+use Rattle.lq_records.specs.declared.object.Object.TheVariants as object
+use Rattle.lq_events.specs.declared.log_entry.LogEntry.{LogEntry}
+use Rattle.lq_events.specs.declared.status.Status.{Status}
+use Rattle.lq_events.specs.declared.update.Update.{Update}
+use Rattle.lq_live.specs.State.{State, with_status}
+use Rattle.lq_live.specs.Always.{IsFront}
+use Rattle.lq_live.specs.Effects.{acknowledge_as, command_of}
+use Rattle.lq_live.specs.Edits.{make_edit, play_edits}
+use Rattle.lq_live.specs.Kept.{at_second}
+use Rattle.lq_live.specs.Step.{second_after, step}
+use Rattle.lq_live.specs.StepEdits.{effect_edits}
+use Rattle.lq_live.specs.declared.edit.Edit.{Edit}
+use Rattle.lq_live.specs.declared.edit.Edit.TheVariants as edit
+use Rattle.lq_live.proofs.Played.{ready_by, step_by}
+
+pub own_front : (log : List LogEntry) → IsFront log log
+own_front log = record { rest = []; is = sym (append-nil log) }
+
+more_front : (log more : List LogEntry) → IsFront log (log ++ more)
+more_front log more = record { rest = more; is = λ i. log ++ more }
+
+front_on : (a b c : List LogEntry) → IsFront a b → IsFront b c → IsFront a c
+front_on a b c ab bc = record { rest = ab.rest ++ bc.rest; is = bc.is ∙ ap (λ log. log ++ bc.rest) ab.is ∙ append_assoc a ab.rest bc.rest }
+
+status_front : (change : Status → Status) (object : Object) (s : State) → IsFront s.log (with_status change object s).log
+status_front change (object.Host id) s = own_front s.log
+status_front change (object.Service id) s = own_front s.log
+
+edit_front : (edit : Edit) (s : State) → IsFront s.log (make_edit edit s).log
+edit_front (edit.Line entry) s = more_front s.log _
+edit_front (edit.Moment event line) s = more_front s.log _
+edit_front (edit.AddDowntime downtime line) s = more_front s.log _
+edit_front (edit.RemoveDowntime kind id line) s = more_front s.log _
+edit_front (edit.SetStatus object status) s = status_front (λ _. status) object s
+edit_front (edit.SetAcknowledgement object kind) s = status_front (acknowledge_as kind) object s
+edit_front (edit.SetNotifications object on) s = status_front (λ status. record status { notifications_enabled = on }) object s
+edit_front _ s = own_front s.log
+
+play_front : (edits : List Edit) (s : State) → IsFront s.log (play_edits edits s).log
+play_front [] s = own_front s.log
+play_front (edit ∷ edits) s = front_on s.log (make_edit edit s).log (play_edits edits (make_edit edit s)).log (edit_front edit s) (play_front edits (make_edit edit s))
+
+pub step_front : (s : State) (update : Update) → IsFront s.log (step s update).log
+step_front s update =
+    let changes : List Edit = effect_edits (command_of update.act) (at_second (second_after s update) s) in
+    subst (λ t. IsFront s.log t.log) (step_by s update)
+    (front_on s.log (ready_by s update).log (play_edits changes (ready_by s update)).log
+    (front_on s.log _ (ready_by s update).log (more_front s.log _) (more_front _ _))
+    (play_front changes (ready_by s update)))
