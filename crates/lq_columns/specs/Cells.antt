@@ -36,8 +36,9 @@ use Rattle.lq_columns.specs.declared.scope.Scope.{Scope}
 use Rattle.lq_columns.specs.declared.scope.Scope.TheVariants as scope
 use Rattle.lq_columns.specs.declared.counted.Counted.TheVariants as counted
 
-abbrev pub count : ℕ → Value
-count number = Number (pos number)
+-- a number that is never below 0
+abbrev pub natural : ℕ → Value
+natural number = Number (pos number)
 
 -- ---- what the object file says of a host or a service
 
@@ -46,7 +47,7 @@ object_cell base about fields object_column.DisplayName = Words fields.display_n
 object_cell base about fields object_column.CheckCommand = Words fields.check_command
 object_cell base about fields object_column.CheckPeriod = Words fields.check_period
 object_cell base about fields object_column.NotificationPeriod = Words fields.notification_period
-object_cell base about fields object_column.MaxCheckAttempts = count fields.max_check_attempts
+object_cell base about fields object_column.MaxCheckAttempts = natural fields.max_check_attempts
 object_cell base about fields object_column.Notes = Words fields.notes
 object_cell base about fields object_column.NotesUrl = Words fields.notes_url
 object_cell base about fields object_column.ActionUrl = Words fields.action_url
@@ -86,20 +87,20 @@ comment_ids_of s about =
 
 abbrev pub status_cell : State → Object → Status → StatusColumn → Value
 status_cell s about status status_column.State = Number status.state
-status_cell s about status status_column.StateType = count status.state_type
+status_cell s about status status_column.StateType = natural status.state_type
 status_cell s about status status_column.HardState = Number (hard_state status)
 status_cell s about status status_column.LastHardState = Number status.last_hard_state
-status_cell s about status status_column.HasBeenChecked = count status.has_been_checked
-status_cell s about status status_column.CurrentAttempt = count status.current_attempt
-status_cell s about status status_column.LastCheck = count status.last_check
-status_cell s about status status_column.LastStateChange = count status.last_state_change
-status_cell s about status status_column.LastHardStateChange = count status.last_hard_state_change
+status_cell s about status status_column.HasBeenChecked = natural status.has_been_checked
+status_cell s about status status_column.CurrentAttempt = natural status.current_attempt
+status_cell s about status status_column.LastCheck = natural status.last_check
+status_cell s about status status_column.LastStateChange = natural status.last_state_change
+status_cell s about status status_column.LastHardStateChange = natural status.last_hard_state_change
 status_cell s about status status_column.PluginOutput = Words status.plugin_output
 status_cell s about status status_column.PerfData = Words status.perf_data
-status_cell s about status status_column.Acknowledged = count status.acknowledged
-status_cell s about status status_column.AcknowledgementType = count status.acknowledgement_type
-status_cell s about status status_column.ScheduledDowntimeDepth = count (depth_of s about)
-status_cell s about status status_column.NotificationsEnabled = count status.notifications_enabled
+status_cell s about status status_column.Acknowledged = natural status.acknowledged
+status_cell s about status status_column.AcknowledgementType = natural status.acknowledgement_type
+status_cell s about status status_column.ScheduledDowntimeDepth = natural (depth_of s about)
+status_cell s about status status_column.NotificationsEnabled = natural status.notifications_enabled
 status_cell s about status status_column.Comments = Numbers (comment_ids_of s about)
 status_cell s about status status_column.Downtimes = Numbers (downtime_ids_of s about)
 
@@ -108,27 +109,27 @@ status_cell s about status status_column.Downtimes = Numbers (downtime_ids_of s 
 -- of the services of a host, of the services of the hosts that a group lists, or of the services
 -- that a group lists
 abbrev pub services_cell : State → Scope → ServiceCounter → Value
-services_cell s scope service_counter.NumServices = count (services_counted s scope counted.All)
+services_cell s scope service_counter.NumServices = natural (services_counted s scope counted.All)
 services_cell s scope service_counter.NumServicesOk =
-    count (services_counted s scope (counted.In (pos 0)))
+    natural (services_counted s scope (counted.In (pos 0)))
 services_cell s scope service_counter.NumServicesWarn =
-    count (services_counted s scope (counted.In (pos 1)))
+    natural (services_counted s scope (counted.In (pos 1)))
 services_cell s scope service_counter.NumServicesCrit =
-    count (services_counted s scope (counted.In (pos 2)))
+    natural (services_counted s scope (counted.In (pos 2)))
 services_cell s scope service_counter.NumServicesUnknown =
-    count (services_counted s scope (counted.In (pos 3)))
+    natural (services_counted s scope (counted.In (pos 3)))
 services_cell s scope service_counter.NumServicesPending =
-    count (services_counted s scope counted.Pending)
-services_cell s scope service_counter.WorstServiceState = count (worst_service s scope)
+    natural (services_counted s scope counted.Pending)
+services_cell s scope service_counter.WorstServiceState = natural (worst_service s scope)
 
 -- of the hosts that a group lists
 abbrev pub hosts_cell : State → HostGroupId → HostCounter → Value
-hosts_cell s group host_counter.NumHosts = count (hosts_counted s group counted.All)
-hosts_cell s group host_counter.NumHostsUp = count (hosts_counted s group (counted.In (pos 0)))
-hosts_cell s group host_counter.NumHostsDown = count (hosts_counted s group (counted.In (pos 1)))
-hosts_cell s group host_counter.NumHostsUnreach = count (hosts_counted s group (counted.In (pos 2)))
-hosts_cell s group host_counter.NumHostsPending = count (hosts_counted s group counted.Pending)
-hosts_cell s group host_counter.WorstHostState = count (worst_host s group)
+hosts_cell s group host_counter.NumHosts = natural (hosts_counted s group counted.All)
+hosts_cell s group host_counter.NumHostsUp = natural (hosts_counted s group (counted.In (pos 0)))
+hosts_cell s group host_counter.NumHostsDown = natural (hosts_counted s group (counted.In (pos 1)))
+hosts_cell s group host_counter.NumHostsUnreach = natural (hosts_counted s group (counted.In (pos 2)))
+hosts_cell s group host_counter.NumHostsPending = natural (hosts_counted s group counted.Pending)
+hosts_cell s group host_counter.WorstHostState = natural (worst_host s group)
 
 -- ---- hosts
 

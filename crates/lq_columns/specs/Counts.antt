@@ -1,6 +1,6 @@
 -- How many hosts and services are in a state, and the worst state of several.
-use Rattle.std.specs.Prelude.{ℕ, ℤ, pos, ◌==◌, ◌&&◌, not, Bool, true, false, max, List, [], length, map, filter, if◌then◌else◌}
-use Rattle.std.specs.List.{fold, list_any, range_with_len, slice_get}
+use Rattle.std.specs.Prelude.{ℕ, ℤ, pos, ◌==◌, ◌&&◌, not, Bool, true, false, List, [], ◌∷◌, length, filter, if◌then◌else◌}
+use Rattle.std.specs.List.{filter_map, list_any, range_with_len, slice_get}
 use Rattle.std.specs.Option.{option_map_or}
 use Rattle.std.specs.Ordering.{int_eq}
 use Rattle.lq_records.specs.declared.base.Base.{Base}
@@ -51,12 +51,12 @@ is_in_scope base (scope.HostGroup group) place = is_group_service base group pla
 is_in_scope base (scope.ServiceGroup group) place = group_lists base group place
 
 -- the places of a base's services
-abbrev pub places : Base → List ℕ
-places base = range_with_len 0 (length base.services)
+abbrev pub service_places : Base → List ℕ
+service_places base = range_with_len 0 (length base.services)
 
 -- the places of the services that a scope takes in
-abbrev pub places_in : Base → Scope → List ℕ
-places_in base scope = filter (is_in_scope base scope) (places base)
+abbrev pub scope_places : Base → Scope → List ℕ
+scope_places base scope = filter (is_in_scope base scope) (service_places base)
 
 -- ---- counts
 
@@ -74,7 +74,7 @@ counts_at statuses which place = option_map_or (counts which) (slice_get statuse
 
 abbrev pub services_counted : State → Scope → Counted → ℕ
 services_counted s scope which =
-    length (filter (counts_at s.service_status which) (places_in s.base scope))
+    length (filter (counts_at s.service_status which) (scope_places s.base scope))
 
 abbrev pub hosts_counted : State → HostGroupId → Counted → ℕ
 hosts_counted s group which =
@@ -82,38 +82,31 @@ hosts_counted s group which =
 
 -- ---- the worst state
 
--- how severe a service's state is: ok, warning, unknown, critical
-abbrev pub service_severity : ℤ → ℕ
-service_severity state =
-    if int_eq state (pos 1) then 1
-    else if int_eq state (pos 3) then 2
-    else if int_eq state (pos 2) then 3
-    else 0
+-- the state that a member counts with: 0 where it was never checked
+abbrev pub state_of_member : Status → ℤ
+state_of_member member = if is_pending member then pos 0 else member.state
 
-abbrev pub service_state : ℕ → ℕ
-service_state severity =
-    if severity == 1 then 1 else if severity == 2 then 3 else if severity == 3 then 2 else 0
+-- some member counts with a state
+abbrev pub has_state : List Status → ℕ → Bool
+has_state members state = list_any (λ member. int_eq (state_of_member member) (pos state)) members
 
--- how severe a host's state is: up, unreachable, down
-abbrev pub host_severity : ℤ → ℕ
-host_severity state = if int_eq state (pos 2) then 1 else if int_eq state (pos 1) then 2 else 0
+-- the last of some states, or a state that comes before them all
+abbrev pub last_after : ℕ → List ℕ → ℕ
+last_after before [] = before
+last_after before (state ∷ states) = last_after state states
 
-abbrev pub host_state : ℕ → ℕ
-host_state severity = if severity == 1 then 2 else if severity == 2 then 1 else 0
+-- the last state of an order, from good to bad, that some member counts with, and 0 without one
+unfoldable pub worst_of : List ℕ → List Status → ℕ
+worst_of order members = last_after 0 (filter (has_state members) order)
 
--- a pending object is as good as one in state 0
-abbrev pub severity_at : (ℤ → ℕ) → List Status → ℕ → ℕ
-severity_at severity statuses place =
-    option_map_or (λ status. if is_pending status then 0 else severity status.state)
-    (slice_get statuses place) 0
-
+-- the worst state of the services of a scope, in the order ok, warning, unknown, critical
 abbrev pub worst_service : State → Scope → ℕ
 worst_service s scope =
-    service_state
-    (fold max 0 (map (severity_at service_severity s.service_status) (places_in s.base scope)))
+    worst_of (0 ∷ 1 ∷ 3 ∷ 2 ∷ [])
+    (filter_map (slice_get s.service_status) (scope_places s.base scope))
 
+-- the worst state of the hosts that a group lists, in the order up, unreachable, down
 abbrev pub worst_host : State → HostGroupId → ℕ
 worst_host s group =
-    host_state
-    (fold max 0
-    (map (λ id. severity_at host_severity s.host_status id.0) (group_members s.base group)))
+    worst_of (0 ∷ 2 ∷ 1 ∷ [])
+    (filter_map (λ id. slice_get s.host_status id.0) (group_members s.base group))

@@ -1,5 +1,6 @@
 pub mod Cells
 pub mod Counts
+pub mod Severity
 pub mod Marks
 pub mod Distinct
 pub mod Names

@@ -1,12 +1,14 @@
-ghost use Rattle.std.specs.Prelude.{◌≡◌, length, filter, map, max, fold};
+ghost use Rattle.std.specs.Prelude.{◌≡◌, [], ◌∷◌, length, filter, map, max, fold};
+ghost use Rattle.std.specs.List.{filter_map, slice_get};
 ghost use Rattle.lq_schema.specs.Value.{shown};
-ghost use Rattle.lq_columns.specs.Cells.{count, hosts_cell, services_cell};
-ghost use Rattle.lq_columns.specs.Counts.{severity_at, counts_at, host_severity, hosts_counted, services_counted, worst_host, worst_service};
+ghost use Rattle.lq_columns.specs.Cells.{hosts_cell, natural, services_cell};
+ghost use Rattle.lq_columns.specs.Counts.{counts_at, hosts_counted, services_counted, worst_host, worst_of, worst_service};
+ghost use Rattle.lq_columns.specs.Severity.{host_severity, severity_at};
 
 use crate::counted::{Counted, counts_at};
 use crate::scope::Scope;
 use crate::selection::{Selection, members_of_hosts};
-use crate::severity::{host_severity_at, host_state, service_state};
+use crate::severity::{host_severity_at, host_state};
 use lq_events::Status;
 use lq_live::Live;
 use lq_records::{HostGroupId, HostId};
@@ -39,18 +41,17 @@ pub fn services_value(
 }
 
 fn services_in(alloc: Global, live: &Live, scope: Scope, which: Counted) -> Val<'static>
-    ensures { shown result ≡ count (services_counted live.now.state scope which) }
+    ensures { shown result ≡ natural (services_counted live.now.state scope which) }
 {
     let selection = Selection::new(alloc, live.base(), scope);
     Val::Int(selection.count(live.service_statuses(), which) as i128)
 }
 
 fn worst_service(alloc: Global, live: &Live, scope: Scope) -> Val<'static>
-    ensures { shown result ≡ count (worst_service live.now.state scope) }
+    ensures { shown result ≡ natural (worst_service live.now.state scope) }
 {
     let selection = Selection::new(alloc, live.base(), scope);
-    let severity = selection.worst(live.service_statuses());
-    Val::Int(i128::from(service_state(severity)))
+    Val::Int(i128::from(selection.worst(live.service_statuses())))
 }
 
 // ---- hosts
@@ -72,7 +73,7 @@ pub fn hosts_value(live: &Live, group: HostGroupId, column: HostCounter) -> Val<
 }
 
 fn hosts_in(live: &Live, group: HostGroupId, which: Counted) -> Val<'static>
-    ensures { shown result ≡ count (hosts_counted live.now.state group which) }
+    ensures { shown result ≡ natural (hosts_counted live.now.state group which) }
 {
     let members = members_of_hosts(live.base(), group);
     Val::Int(count_hosts(live.host_statuses(), members, which) as i128)
@@ -88,14 +89,21 @@ fn count_hosts(statuses: &[Status], members: &[HostId], which: Counted) -> usize
 }
 
 fn worst_host(live: &Live, group: HostGroupId) -> Val<'static>
-    ensures { shown result ≡ count (worst_host live.now.state group) }
+    ensures { shown result ≡ natural (worst_host live.now.state group) }
 {
     let members = members_of_hosts(live.base(), group);
-    let severity = worst_among(live.host_statuses(), members);
-    Val::Int(i128::from(host_state(severity)))
+    Val::Int(i128::from(worst_among(live.host_statuses(), members)))
 }
 
+/// The worst state of some hosts.
 fn worst_among(statuses: &[Status], members: &[HostId]) -> u8
+    ensures { result
+        ≡ worst_of (0 ∷ 2 ∷ 1 ∷ []) (filter_map (λ id. slice_get statuses.now id.0) members.now) }
+{
+    host_state(severity_among(statuses, members))
+}
+
+fn severity_among(statuses: &[Status], members: &[HostId]) -> u8
     ensures { result
         ≡ fold max 0 (map (λ id. severity_at host_severity statuses.now id.0) members.now) }
 {

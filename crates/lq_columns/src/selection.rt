@@ -1,11 +1,13 @@
-ghost use Rattle.std.specs.Prelude.{◌≡◌, length, filter, map, max, fold};
-ghost use Rattle.lq_columns.specs.Counts.{severity_at, group_lists, group_members, is_group_service, is_in_scope, is_service_of, places_in, counts_at, service_severity, service_members};
+ghost use Rattle.std.specs.Prelude.{◌≡◌, [], ◌∷◌, length, filter, map, max, fold};
+ghost use Rattle.std.specs.List.{filter_map, slice_get};
+ghost use Rattle.lq_columns.specs.Counts.{counts_at, group_lists, group_members, is_group_service, is_in_scope, is_service_of, scope_places, service_members, worst_of};
 ghost use Rattle.lq_columns.specs.Marks.{AreMarks, AreMarksOf, has_place};
+ghost use Rattle.lq_columns.specs.Severity.{service_severity, severity_at};
 
 use crate::counted::{Counted, counts_at};
 use crate::marks::{has_marked, marks_of};
 use crate::scope::Scope;
-use crate::severity::service_severity_at;
+use crate::severity::{service_severity_at, service_state};
 use lq_events::Status;
 use lq_records::{Base, HostGroupId, HostId, ServiceGroupId, ServiceId};
 use std::alloc::Global;
@@ -47,7 +49,7 @@ impl<'a> Selection<'a> {
         requires { AreMarksOf self.now.base.now self.now.scope self.now.marks.items }
         ensures { result
             ≡ length (filter (counts_at statuses.now which)
-            (places_in self.now.base.now self.now.scope)) }
+            (scope_places self.now.base.now self.now.scope)) }
     {
         (0..self.base.services.len())
             .filter(|place| self.has(*place))
@@ -55,12 +57,24 @@ impl<'a> Selection<'a> {
             .count()
     }
 
-    /// How bad the worst of their states is.
+    /// The worst of their states.
+    #[tactic(auto, using(crate::proofs::Worst::greatest_is_worst_service))]
     pub(crate) fn worst(&self, statuses: &[Status]) -> u8
         requires { AreMarksOf self.now.base.now self.now.scope self.now.marks.items }
         ensures { result
+            ≡ worst_of (0 ∷ 1 ∷ 3 ∷ 2 ∷ [])
+            (filter_map (slice_get statuses.now)
+            (scope_places self.now.base.now self.now.scope)) }
+    {
+        service_state(self.severity(statuses))
+    }
+
+    /// The greatest severity of their states.
+    fn severity(&self, statuses: &[Status]) -> u8
+        requires { AreMarksOf self.now.base.now self.now.scope self.now.marks.items }
+        ensures { result
             ≡ fold max 0 (map (severity_at service_severity statuses.now)
-            (places_in self.now.base.now self.now.scope)) }
+            (scope_places self.now.base.now self.now.scope)) }
     {
         (0..self.base.services.len())
             .filter(|place| self.has(*place))
