@@ -4,7 +4,8 @@ use Rattle.std.specs.Prelude.{◌==◌, bytes_eq, nat_eq}
 use Rattle.std.specs.List.{list_all, list_any, starts_with}
 use Rattle.std.proofs.lemmas.Bool.{and_parts, cases_Bool, or_from, or_parts, and_left}
 use Rattle.std.proofs.lemmas.Slice.Eq.{bytes_eq-Decides}
-use Rattle.lq_objects.specs.Blocks.{is_named, is_word, word_length}
+use Rattle.lq_objects.specs.Blocks.{is_named}
+use Rattle.lq_objects.specs.Words.{is_word, word_length}
 use Rattle.lq_objects.specs.Needed.{is_known, known_directives}
 use Rattle.lq_objects.proofs.WordLemmas.{is_named-by_word}
 

@@ -4,7 +4,8 @@ use Rattle.std.specs.Prelude.{◌==◌, nat_eq, slice_index}
 use Rattle.std.specs.List.{list_any, starts_with}
 use Rattle.std.proofs.lemmas.Bool.{cases_Bool, eq-eqb, eqb-false, eqb-true, ne_eqb, not-true, or_parts}
 use Rattle.lq_text.specs.Blanks.{is_blank}
-use Rattle.lq_objects.specs.Blocks.{is_named, is_word, word_length}
+use Rattle.lq_objects.specs.Blocks.{is_named}
+use Rattle.lq_objects.specs.Words.{is_word, word_length}
 
 -- the word at the front has no bytes where a blank stands there
 no_word : (blank : Bool) (rest : ℕ) → (cond (not blank) (1 + rest) 0 == 0) ≡ blank

@@ -1,6 +1,6 @@
 -- The lines of an object file, and the parts that they make.
 use Rattle.std.specs.Prelude.{ℕ, ◌+◌, ◌-◌, ◌==◌, ◌&&◌, ◌||◌, nat_lt, nat_eq, Bool, not, Option, Some, None, List, [], ◌∷◌, length, take, drop, map, filter, find, reverse, bytes_eq, codes, slice_index, if◌then◌else◌}
-use Rattle.std.specs.List.{enumerate_from, list_any, prefix_len, starts_with}
+use Rattle.std.specs.List.{enumerate_from, list_any, starts_with}
 use Rattle.std.specs.Option.{option_map}
 use Rattle.lq_text.specs.Blanks.{is_blank, trimmed}
 use Rattle.lq_text.specs.Lines.{lines_of}
@@ -66,14 +66,6 @@ parts_of (line ∷ lines) =
     else begin_part line (parts_of lines)
 
 -- ---- directives
-
--- how many bytes the word at the front of a text has
-abbrev pub word_length : List ℕ → ℕ
-word_length text = prefix_len (λ byte. not (is_blank byte)) text
-
--- a word has no blanks
-abbrev pub is_word : List ℕ → Bool
-is_word name = not (list_any is_blank name)
 
 -- a directive's name stands at the front of its line, and a blank or nothing follows it
 abbrev pub is_named : List ℕ → List ℕ → Bool

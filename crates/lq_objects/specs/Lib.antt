@@ -8,3 +8,4 @@ pub mod Needed
 pub mod Objects
 pub mod Reading
 pub mod Views
+pub mod Words

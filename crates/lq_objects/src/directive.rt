@@ -1,7 +1,8 @@
 ghost use Rattle.std.specs.Prelude.{◌≡◌, IsTrue};
 ghost use Rattle.std.specs.List.{starts_with};
 ghost use Rattle.std.specs.Option.{option_copied};
-ghost use Rattle.lq_objects.specs.Blocks.{directive, is_word, value_of};
+ghost use Rattle.lq_objects.specs.Blocks.{directive, value_of};
+ghost use Rattle.lq_objects.specs.Words.{is_word};
 ghost use Rattle.lq_objects.specs.Faults.{is_bad, is_bad_number, is_template, number_in};
 ghost use Rattle.lq_objects.specs.Objects.{is_variable};
 

@@ -3,7 +3,8 @@ ghost use Rattle.std.specs.List.{list_any};
 ghost use Rattle.std.specs.Option.{option_copied};
 ghost use Rattle.lq_text.specs.Blanks.{is_blank};
 ghost use Rattle.lq_objects.specs.Blocks.{is_closing, is_named, is_opening_text, is_telling};
-ghost use Rattle.lq_objects.specs.Blocks.{is_word, one_word, opened_word, parts_of, word_length};
+ghost use Rattle.lq_objects.specs.Blocks.{one_word, opened_word, parts_of};
+ghost use Rattle.lq_objects.specs.Words.{is_word, word_length};
 ghost use Rattle.lq_objects.specs.Needed.{is_bound, is_known, is_needed};
 ghost use Rattle.lq_objects.specs.Objects.{base_of, base_of_parts, variable_name};
 ghost use Rattle.lq_records.specs.declared.base.Rules.{Rules};
@@ -31,7 +32,8 @@ pub(crate) struct Line<'a> {
 
 impl<'a> Model for Line<'a> {
     ghost use Rattle.std.specs.Prelude.{◌≡◌};
-    ghost use Rattle.lq_objects.specs.Blocks.{Line, word_length};
+    ghost use Rattle.lq_objects.specs.Blocks.{Line};
+    ghost use Rattle.lq_objects.specs.Words.{word_length};
 
     ghost Value = { Line };
 

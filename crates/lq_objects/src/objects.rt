@@ -1,6 +1,6 @@
 ghost use Rattle.std.specs.Prelude.{◌≡◌, ◌≤◌, List, [], IfOk, IsTrue, map};
 ghost use Rattle.lq_names.specs.Names.{Name};
-ghost use Rattle.lq_objects.specs.Blocks.{is_word};
+ghost use Rattle.lq_objects.specs.Words.{is_word};
 ghost use Rattle.lq_objects.specs.Directories.{known};
 ghost use Rattle.lq_objects.specs.Names.{text_or};
 ghost use Rattle.lq_objects.specs.Objects.{command_of, contact_group_of, contact_of, fields_of};
