@@ -5,8 +5,9 @@ use Rattle.std.specs.Option.{option_copied}
 use Rattle.lq_objects.specs.Blocks.{Part}
 use Rattle.lq_objects.specs.declared.part.Part as declared
 
-abbrev pub texts : List (Bor (List ℕ)) → List (List ℕ)
-texts borrowed = map (λ text. text.now) borrowed
+-- the texts that are lent
+abbrev pub borrowed : List (Bor (List ℕ)) → List (List ℕ)
+borrowed texts = map (λ text. text.now) texts
 
 -- a part as its lines
 abbrev pub part_of : declared.Part → Part

@@ -13,13 +13,13 @@ use crate::kind::Kind;
 use crate::line::Line;
 use crate::name::name_of;
 use crate::part::Part;
+use crate::texts::Texts;
 use lq_names::{Name, NameIndex};
-use std::alloc::Global;
 
 /// The block that a part is, where its kind is known, or the first fault in the part. The name of
 /// the block's object goes into the directory.
 pub(crate) fn read_part<'p, 'a>(
-    alloc: Global,
+    texts: &Texts,
     directory: &mut Directory,
     part: &Part<'p, 'a>,
 ) -> Result<Option<Block<'p, 'a>>, ObjectsErr>
@@ -44,7 +44,7 @@ pub(crate) fn read_part<'p, 'a>(
         lines,
         closing: part.closing,
     };
-    opened.read(alloc, directory)
+    opened.read(texts, directory)
 }
 
 /// A block that a line opens: that line's number, the kind where it is known, the lines in the
@@ -61,7 +61,7 @@ impl<'p, 'a> Opened<'p, 'a> {
     /// The block, where its kind is known, or the first fault in it.
     fn read(
         &self,
-        alloc: Global,
+        texts: &Texts,
         directory: &mut Directory,
     ) -> Result<Option<Block<'p, 'a>>, ObjectsErr>
         ensures fault { Checks result (opened_fault (known directory.old) self.now.opening
@@ -83,7 +83,7 @@ impl<'p, 'a> Opened<'p, 'a> {
         let Some(kind) = self.kind else {
             return Ok(None);
         };
-        let name = name_of(alloc, kind, self.lines).map_err(ObjectsErr::Memory)?;
+        let name = name_of(texts, kind, self.lines).map_err(ObjectsErr::Memory)?;
         add_name(directory, kind, name, closing)?;
         Ok(Some(Block::new(kind, self.lines)))
     }

@@ -15,6 +15,7 @@ mod objects;
 mod part;
 mod places;
 mod read;
+mod texts;
 mod unknown;
 mod variables;
 

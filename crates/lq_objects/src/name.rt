@@ -5,14 +5,15 @@ ghost use Rattle.lq_objects.specs.Names.{name_of, text_or};
 use crate::directive::directive;
 use crate::kind::{Kind, Reference};
 use crate::line::Line;
+use crate::texts::Texts;
 use lq_names::Name;
-use lq_records::{Text, clean_text};
-use std::alloc::{AllocError, Global};
+use lq_records::Text;
+use std::alloc::AllocError;
 
 /// The text of a directive, or another text where it is absent.
 pub(crate) fn text_or(
-    alloc: Global,
-    absent: &str,
+    texts: &Texts,
+    absent: &Text,
     name: &[u8],
     lines: &[Line<'_>],
 ) -> Result<Text, AllocError>
@@ -20,29 +21,29 @@ pub(crate) fn text_or(
     ensures { IfOk result (λ text. text ≡ text_or absent.now name.now lines.now) }
 {
     match directive(name, lines) {
-        Some(value) => clean_text(alloc, value),
-        None => Text::new(alloc, absent),
+        Some(value) => texts.text(value),
+        None => absent.clone(),
     }
 }
 
 /// The text of a directive, empty where it is absent.
-pub(crate) fn text_of(alloc: Global, name: &[u8], lines: &[Line<'_>]) -> Result<Text, AllocError>
+pub(crate) fn text_of(texts: &Texts, name: &[u8], lines: &[Line<'_>]) -> Result<Text, AllocError>
     requires { IsTrue (is_word name.now) }
     ensures { IfOk result (λ text. text ≡ text_or [] name.now lines.now) }
 {
     match directive(name, lines) {
-        Some(value) => clean_text(alloc, value),
+        Some(value) => texts.text(value),
         None => Ok(Text::empty()),
     }
 }
 
 /// The name that a block's directives give its object, an absent one being empty.
-pub(crate) fn name_of(alloc: Global, kind: Kind, lines: &[Line<'_>]) -> Result<Name, AllocError>
+pub(crate) fn name_of(texts: &Texts, kind: Kind, lines: &[Line<'_>]) -> Result<Name, AllocError>
     ensures { IfOk result (λ name. name ≡ name_of kind lines.now) }
 {
-    let first = text_of(alloc, kind.name_directive(), lines)?;
+    let first = text_of(texts, kind.name_directive(), lines)?;
     let second = match kind.second_directive() {
-        Some(name) => text_of(alloc, name, lines)?,
+        Some(name) => text_of(texts, name, lines)?,
         None => Text::empty(),
     };
     Ok(Name::new(first, second))

@@ -3,37 +3,38 @@ ghost use Rattle.std.specs.Option.{option_map};
 ghost use Rattle.lq_records.specs.Clean.{cleaned};
 ghost use Rattle.lq_names.specs.Names.{place_of, single};
 ghost use Rattle.lq_objects.specs.Names.{elements, named_in, pairs_of, pieces_of};
-ghost use Rattle.lq_objects.specs.Views.{texts};
+ghost use Rattle.lq_objects.specs.Views.{borrowed};
 
 use crate::kind::Reference;
+use crate::texts::Texts;
 use lq_names::{Name, NameIndex};
-use lq_records::clean_text;
 use lq_text::trim;
 use std::alloc::{AllocError, Global};
 
 /// The names in the value of a directive. None where a service group has an odd number of elements.
 pub(crate) fn named_in(
-    alloc: Global,
+    texts: &Texts,
     reference: Reference,
     value: &[u8],
 ) -> Result<Option<Vec<Name>>, AllocError>
     ensures { IfOk result
         (λ names. option_map (λ list. list.items) names ≡ named_in reference value.now) }
 {
+    let alloc = texts.alloc();
     match reference {
-        Reference::ServiceHost => whole(alloc, value).map(Some),
-        Reference::MemberServices => pairs(alloc, &pieces(alloc, value)?),
+        Reference::ServiceHost => whole(texts, value).map(Some),
+        Reference::MemberServices => pairs(texts, &pieces(alloc, value)?),
         Reference::Parents
         | Reference::Contacts
         | Reference::ContactGroups
         | Reference::MemberHosts
-        | Reference::MemberContacts => singles(alloc, &pieces(alloc, value)?).map(Some),
+        | Reference::MemberContacts => singles(texts, &pieces(alloc, value)?).map(Some),
     }
 }
 
 /// What stands between commas, without blanks round it and without what is empty.
 fn pieces(alloc: Global, value: &[u8]) -> Result<Vec<&[u8]>, AllocError>
-    ensures { IfOk result (λ pieces. texts pieces.items ≡ pieces_of value.now) }
+    ensures { IfOk result (λ pieces. borrowed pieces.items ≡ pieces_of value.now) }
 {
     value
         .split(|byte| *byte == b',')
@@ -44,47 +45,47 @@ fn pieces(alloc: Global, value: &[u8]) -> Result<Vec<&[u8]>, AllocError>
 
 /// The place of the object that a value names as a whole. None where it isn't there.
 pub(crate) fn place_of_whole(
-    alloc: Global,
+    texts: &Texts,
     index: &NameIndex,
     value: &[u8],
 ) -> Result<Option<u32>, AllocError>
     ensures { IfOk result (λ place. place ≡ place_of index.now (single (cleaned value.now))) }
 {
-    let name = Name::single(clean_text(alloc, value)?);
+    let name = Name::single(texts.text(value)?);
     Ok(index.find(&name))
 }
 
 /// A value that is one name.
-fn whole(alloc: Global, value: &[u8]) -> Result<Vec<Name>, AllocError>
+fn whole(texts: &Texts, value: &[u8]) -> Result<Vec<Name>, AllocError>
     ensures { IfOk result (λ names. names.items ≡ single (cleaned value.now) ∷ []) }
 {
-    let mut names = Vec::new(alloc);
-    names.push(Name::single(clean_text(alloc, value)?))?;
+    let mut names = Vec::new(texts.alloc());
+    names.push(Name::single(texts.text(value)?))?;
     Ok(names)
 }
 
 /// Names of one part.
-fn singles(alloc: Global, pieces: &[&[u8]]) -> Result<Vec<Name>, AllocError>
-    ensures { IfOk result (λ names. names.items ≡ map single (map cleaned (texts pieces.now))) }
+fn singles(texts: &Texts, pieces: &[&[u8]]) -> Result<Vec<Name>, AllocError>
+    ensures { IfOk result (λ names. names.items ≡ map single (map cleaned (borrowed pieces.now))) }
 {
-    let mut names = Vec::new(alloc);
+    let mut names = Vec::new(texts.alloc());
     for piece in pieces {
-        names.push(Name::single(clean_text(alloc, piece)?))?;
+        names.push(Name::single(texts.text(piece)?))?;
     }
     Ok(names)
 }
 
 /// Names of two parts. None where the last one lacks its second.
-fn pairs(alloc: Global, pieces: &[&[u8]]) -> Result<Option<Vec<Name>>, AllocError>
+fn pairs(texts: &Texts, pieces: &[&[u8]]) -> Result<Option<Vec<Name>>, AllocError>
     ensures { IfOk result
         (λ names. option_map (λ list. list.items) names
-        ≡ pairs_of (map cleaned (texts pieces.now))) }
+        ≡ pairs_of (map cleaned (borrowed pieces.now))) }
 {
-    let mut names = Vec::new(alloc);
+    let mut names = Vec::new(texts.alloc());
     let mut at = 0;
     'pairs: while at + 1 < pieces.len() {
-        let first = clean_text(alloc, pieces[at])?;
-        let second = clean_text(alloc, pieces[at + 1])?;
+        let first = texts.text(pieces[at])?;
+        let second = texts.text(pieces[at + 1])?;
         names.push(Name::new(first, second))?;
         at += 2;
     }

@@ -14,6 +14,7 @@ use crate::kind::{Kind, Reference};
 use crate::line::Line;
 use crate::name::{text_of, text_or};
 use crate::places::{host_place, ids};
+use crate::texts::Texts;
 use crate::variables::custom_variables;
 use lq_records::{
     Base, Command, Contact, ContactGroup, Host, HostGroup, Id, Items, ObjectFields, Period, Rules,
@@ -23,17 +24,17 @@ use std::alloc::{AllocError, Global};
 
 /// The objects that blocks say, by the names of all.
 pub(crate) fn objects_of(
-    alloc: Global,
+    texts: &Texts,
     directory: &Directory,
     rules: Rules,
     blocks: &[Block<'_, '_>],
 ) -> Result<Base, AllocError>
     ensures { IfOk result (λ base. base ≡ objects_of (known directory.now) rules blocks.now) }
 {
-    let mut base = empty_base(alloc, rules);
+    let mut base = empty_base(texts.alloc(), rules);
     for block in blocks {
         let reader = Reader {
-            alloc,
+            texts,
             directory,
             lines: block.lines(),
         };
@@ -62,7 +63,7 @@ fn empty_base(alloc: Global, rules: Rules) -> Base
 /// What the object of a block is read from: the block's lines, and the names of all objects.
 #[derive(Drop)]
 struct Reader<'r, 'a> {
-    alloc: Global,
+    texts: &'r Texts,
     directory: &'r Directory,
     lines: &'r [Line<'a>],
 }
@@ -92,10 +93,10 @@ impl<'r, 'a> Reader<'r, 'a> {
     {
         let host_name = self.text(b"host_name")?;
         Ok(Host {
-            alias: self.text_or(host_name.as_str(), b"alias")?,
+            alias: self.text_or(&host_name, b"alias")?,
             address: self.text(b"address")?,
             parents: self.ids(Reference::Parents)?,
-            fields: self.fields(host_name.as_str())?,
+            fields: self.fields(&host_name)?,
             host_name,
         })
     }
@@ -106,14 +107,14 @@ impl<'r, 'a> Reader<'r, 'a> {
     {
         let service_description = self.text(b"service_description")?;
         Ok(Service {
-            host: host_place(self.alloc, self.directory, self.lines)?,
-            fields: self.fields(service_description.as_str())?,
+            host: host_place(self.texts, self.directory, self.lines)?,
+            fields: self.fields(&service_description)?,
             service_description,
         })
     }
 
     /// What a host or a service has beside its name.
-    fn fields(&self, own_name: &str) -> Result<ObjectFields, AllocError>
+    fn fields(&self, own_name: &Text) -> Result<ObjectFields, AllocError>
         ensures { IfOk result (λ fields. fields
             ≡ fields_of (known self.now.directory.now) own_name.now self.now.lines.now) }
     {
@@ -130,7 +131,7 @@ impl<'r, 'a> Reader<'r, 'a> {
             notes_url: self.text(b"notes_url")?,
             action_url: self.text(b"action_url")?,
             icon_image: self.text(b"icon_image")?,
-            custom_variables: custom_variables(self.alloc, self.lines)?,
+            custom_variables: custom_variables(self.texts, self.lines)?,
         })
     }
 
@@ -140,7 +141,7 @@ impl<'r, 'a> Reader<'r, 'a> {
     {
         let hostgroup_name = self.text(b"hostgroup_name")?;
         Ok(HostGroup {
-            alias: self.text_or(hostgroup_name.as_str(), b"alias")?,
+            alias: self.text_or(&hostgroup_name, b"alias")?,
             members: self.ids(Reference::MemberHosts)?,
             notes: self.text(b"notes")?,
             notes_url: self.text(b"notes_url")?,
@@ -155,7 +156,7 @@ impl<'r, 'a> Reader<'r, 'a> {
     {
         let servicegroup_name = self.text(b"servicegroup_name")?;
         Ok(ServiceGroup {
-            alias: self.text_or(servicegroup_name.as_str(), b"alias")?,
+            alias: self.text_or(&servicegroup_name, b"alias")?,
             members: self.ids(Reference::MemberServices)?,
             notes: self.text(b"notes")?,
             notes_url: self.text(b"notes_url")?,
@@ -169,7 +170,7 @@ impl<'r, 'a> Reader<'r, 'a> {
     {
         let contact_name = self.text(b"contact_name")?;
         Ok(Contact {
-            alias: self.text_or(contact_name.as_str(), b"alias")?,
+            alias: self.text_or(&contact_name, b"alias")?,
             email: self.text(b"email")?,
             pager: self.text(b"pager")?,
             host_notification_period: self.text(b"host_notification_period")?,
@@ -184,7 +185,7 @@ impl<'r, 'a> Reader<'r, 'a> {
     {
         let contactgroup_name = self.text(b"contactgroup_name")?;
         Ok(ContactGroup {
-            alias: self.text_or(contactgroup_name.as_str(), b"alias")?,
+            alias: self.text_or(&contactgroup_name, b"alias")?,
             members: self.ids(Reference::MemberContacts)?,
             contactgroup_name,
         })
@@ -195,7 +196,7 @@ impl<'r, 'a> Reader<'r, 'a> {
     {
         let timeperiod_name = self.text(b"timeperiod_name")?;
         Ok(Period {
-            alias: self.text_or(timeperiod_name.as_str(), b"alias")?,
+            alias: self.text_or(&timeperiod_name, b"alias")?,
             timeperiod_name,
         })
     }
@@ -214,15 +215,15 @@ impl<'r, 'a> Reader<'r, 'a> {
         requires { IsTrue (is_word name.now) }
         ensures { IfOk result (λ text. text ≡ text_or [] name.now self.now.lines.now) }
     {
-        text_of(self.alloc, name, self.lines)
+        text_of(self.texts, name, self.lines)
     }
 
     /// The text of a directive, or another text where it is absent.
-    fn text_or(&self, absent: &str, name: &[u8]) -> Result<Text, AllocError>
+    fn text_or(&self, absent: &Text, name: &[u8]) -> Result<Text, AllocError>
         requires { IsTrue (is_word name.now) }
         ensures { IfOk result (λ text. text ≡ text_or absent.now name.now self.now.lines.now) }
     {
-        text_or(self.alloc, absent, name, self.lines)
+        text_or(self.texts, absent, name, self.lines)
     }
 
     /// The objects that a directive names.
@@ -230,7 +231,7 @@ impl<'r, 'a> Reader<'r, 'a> {
         ensures { IfOk result (λ ids. ids
             ≡ map T.id_at (places (known self.now.directory.now) reference self.now.lines.now)) }
     {
-        ids(self.alloc, self.directory, reference, self.lines)
+        ids(self.texts, self.directory, reference, self.lines)
     }
 }
 

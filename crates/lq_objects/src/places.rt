@@ -10,6 +10,7 @@ use crate::directory::Directory;
 use crate::kind::{Kind, Reference};
 use crate::line::Line;
 use crate::names::{named_in, place_of_whole};
+use crate::texts::Texts;
 use indexmap::IndexSet;
 use lq_names::{Name, NameIndex};
 use lq_records::{HostId, Id, Items};
@@ -17,7 +18,7 @@ use std::alloc::{AllocError, Global};
 
 /// The objects that a block's directive names, in order and without repeats.
 pub(crate) fn ids<T: Id>(
-    alloc: Global,
+    texts: &Texts,
     directory: &Directory,
     reference: Reference,
     lines: &[Line<'_>],
@@ -26,12 +27,12 @@ pub(crate) fn ids<T: Id>(
         (λ ids. ids ≡ map T.id_at (places (known directory.now) reference lines.now)) }
 {
     let names = match directive(reference.directive(), lines) {
-        Some(value) => named_in(alloc, reference, value)?,
+        Some(value) => named_in(texts, reference, value)?,
         None => None,
     };
     match names {
-        Some(names) => ids_of(alloc, directory.of(reference.target()), &names),
-        None => Ok(Items::new(alloc)),
+        Some(names) => ids_of(texts.alloc(), directory.of(reference.target()), &names),
+        None => Ok(Items::new(texts.alloc())),
     }
 }
 
@@ -65,7 +66,7 @@ fn places_of(alloc: Global, index: &NameIndex, names: &[Name]) -> Result<IndexSe
 
 /// The place of the host that a service names.
 pub(crate) fn host_place(
-    alloc: Global,
+    texts: &Texts,
     directory: &Directory,
     lines: &[Line<'_>],
 ) -> Result<HostId, AllocError>
@@ -77,7 +78,7 @@ pub(crate) fn host_place(
         return Ok(HostId(0));
     };
     Ok(
-        match place_of_whole(alloc, directory.of(Kind::Host), value)? {
+        match place_of_whole(texts, directory.of(Kind::Host), value)? {
             Some(place) => HostId(place),
             None => HostId(0),
         },

@@ -16,6 +16,7 @@ use crate::fault::ObjectsErr;
 use crate::line::{Line, needed_lines};
 use crate::objects::objects_of;
 use crate::part::{Part, after, first_part};
+use crate::texts::Texts;
 use crate::unknown::unknown_fault;
 use lq_records::{Base, Rules};
 use std::alloc::{AllocError, Global};
@@ -42,10 +43,11 @@ pub fn read_objects(alloc: Global, b: &[u8], rules: Rules) -> Result<Base, Objec
 fn read_lines(alloc: Global, lines: &[Line<'_>], rules: Rules) -> Result<Base, ObjectsErr>
     ensures { Reads result (base_of_parts rules (parts_of lines.now)) }
 {
+    let texts = Texts::new(alloc).map_err(ObjectsErr::Memory)?;
     let mut directory = Directory::new(alloc);
-    let found = read_blocks(alloc, &mut directory, lines)?;
-    match unknown_fault(alloc, &directory, &found) {
-        Ok(None) => read_known(alloc, &directory, &found, rules),
+    let found = read_blocks(&texts, &mut directory, lines)?;
+    match unknown_fault(&texts, &directory, &found) {
+        Ok(None) => read_known(&texts, &directory, &found, rules),
         Ok(Some(fault)) => Err(fault.error()),
         Err(error) => Err(ObjectsErr::Memory(error)),
     }
@@ -53,14 +55,14 @@ fn read_lines(alloc: Global, lines: &[Line<'_>], rules: Rules) -> Result<Base, O
 
 /// The base that blocks say which name only what is there.
 fn read_known(
-    alloc: Global,
+    texts: &Texts,
     directory: &Directory,
     blocks: &[Block<'_, '_>],
     rules: Rules,
 ) -> Result<Base, ObjectsErr>
     ensures { Reads result (Ok (objects_of (known directory.now) rules blocks.now)) }
 {
-    match objects_of(alloc, directory, rules, blocks) {
+    match objects_of(texts, directory, rules, blocks) {
         Ok(base) => Ok(base),
         Err(error) => Err(ObjectsErr::Memory(error)),
     }
@@ -69,7 +71,7 @@ fn read_known(
 /// The blocks of known kinds, whose objects' names go into the directory, or the first fault of the
 /// parts.
 fn read_blocks<'p, 'a>(
-    alloc: Global,
+    texts: &Texts,
     directory: &mut Directory,
     lines: &'p [Line<'a>],
 ) -> Result<Vec<Block<'p, 'a>>, ObjectsErr>
@@ -78,11 +80,11 @@ fn read_blocks<'p, 'a>(
     ensures all { IfOk result (λ blocks. blocks.items ≡ blocks_of (parts_of lines.now)) }
     ensures directory { IfOk result (λ blocks. directory.new ≡ directory_of blocks.items) }
 {
-    let mut blocks = Vec::new(alloc);
+    let mut blocks = Vec::new(texts.alloc());
     let mut rest = lines;
     'parts: while !rest.is_empty() {
         let part = first_part(rest);
-        read_next(alloc, directory, &mut blocks, &part)?;
+        read_next(texts, directory, &mut blocks, &part)?;
         rest = after(rest, part.length);
     }
     Ok(blocks)
@@ -90,7 +92,7 @@ fn read_blocks<'p, 'a>(
 
 /// Adds the block that a part is, where its kind is known.
 fn read_next<'p, 'a>(
-    alloc: Global,
+    texts: &Texts,
     directory: &mut Directory,
     blocks: &mut Vec<Block<'p, 'a>>,
     part: &Part<'p, 'a>,
@@ -103,7 +105,7 @@ fn read_next<'p, 'a>(
         (blocks.new.items ≡ blocks.old.items ++ block_of part.now.lines.now) }
     ensures directory { OnOk result (directory.new ≡ directory_of blocks.new.items) }
 {
-    if let Some(block) = read_part(alloc, directory, part)? {
+    if let Some(block) = read_part(texts, directory, part)? {
         blocks
             .push(block)
             .map_err(|_| ObjectsErr::Memory(AllocError))?;

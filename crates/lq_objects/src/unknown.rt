@@ -14,19 +14,20 @@ use crate::kind::{Kind, Reference};
 use crate::line::Line;
 use crate::names::{named_in, place_of_whole};
 use crate::part::after;
+use crate::texts::Texts;
 use lq_names::{Name, NameIndex};
-use std::alloc::{AllocError, Global};
+use std::alloc::AllocError;
 
 /// The first line of blocks that names what isn't there.
 pub(crate) fn unknown_fault(
-    alloc: Global,
+    texts: &Texts,
     directory: &Directory,
     blocks: &[Block<'_, '_>],
 ) -> Result<Option<Fault>, AllocError>
     ensures { IfOk result
         (λ fault. fault ≡ first_of (unknown_in_block (known directory.now)) blocks.now) }
 {
-    let finder = Finder { alloc, directory };
+    let finder = Finder { texts, directory };
     for block in blocks {
         if let Some(fault) = finder.unknown_in_block(block)? {
             return Ok(Some(fault));
@@ -38,7 +39,7 @@ pub(crate) fn unknown_fault(
 /// What names are looked up in: the names of all objects.
 #[derive(Drop)]
 struct Finder<'d> {
-    alloc: Global,
+    texts: &'d Texts,
     directory: &'d Directory,
 }
 
@@ -111,9 +112,9 @@ impl<'d> Finder<'d> {
     {
         let index = self.directory.of(reference.target());
         if let Reference::ServiceHost = reference {
-            return Ok(place_of_whole(self.alloc, index, value)?.is_none());
+            return Ok(place_of_whole(self.texts, index, value)?.is_none());
         }
-        let Some(names) = named_in(self.alloc, reference, value)? else {
+        let Some(names) = named_in(self.texts, reference, value)? else {
             return Ok(true);
         };
         Ok(lacks_any(index, &names))

@@ -10,7 +10,7 @@ use Rattle.lq_objects.proofs.read.read_lines.Goals as goal
 
 pub returns-in_err-found : goal.returns-in_err-found
 returns-in_err-found c =
-    reads_passed c.from_residual.result c.in_err-found.field-0.0 (base_of_parts c.args.rules (parts_of c.args.lines.now)) c.from_residual.ensures.1
+    reads_passed c.from_residual-in_err-found.result c.in_err-found.field-0.0 (base_of_parts c.args.rules (parts_of c.args.lines.now)) c.from_residual-in_err-found.ensures.1
     (reads_fault c.args.rules (parts_of c.args.lines.now) c.in_err-found.field-0.0 c.in_err-found.ensures.fault)
 
 pub returns-in-Ok-None : goal.returns-in-Ok-None
