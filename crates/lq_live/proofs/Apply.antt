@@ -20,7 +20,6 @@ use Rattle.lq_live.specs.declared.live_state.LiveState.{LiveState}
 use Rattle.lq_live.specs.declared.edit.Edit.{Edit}
 use Rattle.lq_live.specs.declared.edit.Edit.TheVariants as edit
 use Rattle.lq_live.proofs.Kept.{step_timely}
-use Rattle.lq_live.proofs.Played.{step_edits_played}
 
 -- ---- one edit after another
 
@@ -67,5 +66,5 @@ room_less live more less low room = record {
 pub timely_for : (old mid : State) (update : Update) (edits : List Edit) → IsKept old → edits ≡ step_edits old update → mid ≡ old → Timely (last_time mid.log) edits
 timely_for old mid update edits kept is same = rw (is, same) (step_timely old update kept)
 
-pub step_for : (old mid new : State) (update : Update) (edits : List Edit) → edits ≡ step_edits old update → mid ≡ old → new ≡ play_edits edits mid → new ≡ step old update
-step_for old mid new update edits is same plays = plays ∙ rw (is, same) (step_edits_played old update)
+pub step_for : (old mid new : State) (update : Update) (edits : List Edit) → play_edits edits old ≡ step old update → mid ≡ old → new ≡ play_edits edits mid → new ≡ step old update
+step_for old mid new update edits takes same plays = plays ∙ rw same takes

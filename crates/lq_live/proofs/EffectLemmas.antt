@@ -12,14 +12,13 @@ use Rattle.lq_events.specs.declared.status.Downtime.{Downtime}
 use Rattle.lq_events.specs.declared.status.Status.{Status}
 use Rattle.lq_log.specs.declared.book.TheConstants.{TIME_LIMIT}
 use Rattle.lq_live.specs.State.{LineNames, State, names_of, status_of}
-use Rattle.lq_live.specs.Results.{check_attempt, differs, ends_acknowledgement, is_ok, most_code, status_after}
+use Rattle.lq_live.specs.Results.{Attempt, check_attempt, differs, ends_acknowledgement, is_ok, most_code, status_after}
 use Rattle.lq_live.specs.Downtimes.{downtime_line, only_if}
 use Rattle.lq_live.specs.Effects.{AcknowledgeProblem, AddComment, CheckResult, Command, DelComment, DelDowntime, DisableNotifications, DisableNotificationsOf, EnableNotifications, EnableNotificationsOf, NewComment, NewDowntime, RemoveAcknowledgement, ScheduleDowntime, Unknown, alert_line, comment_of, downtime_of, holds, is_named, is_taken}
 use Rattle.lq_live.specs.Edits.{depth_line, depth_line_of, line_in}
 use Rattle.lq_live.specs.StepEdits.{acknowledge_edits_in, cancel_line, check_edits, comment_edits, effect_edits, known_edits, notify_edits, remove_acknowledgement_edits, result_edits, schedule_edits}
 use Rattle.lq_live.specs.Order.{EditAt, EditsAt, IsNew, LineAt, additions, all_additions}
 use Rattle.lq_live.specs.Kept.{MayFollow, Timely, time_behind}
-use Rattle.lq_live.specs.declared.check_result.CheckAttempt.{CheckAttempt}
 use Rattle.lq_live.specs.declared.edit.Edit.{Edit}
 use Rattle.lq_live.specs.declared.edit.Edit.TheVariants as edit
 
@@ -67,11 +66,11 @@ effect_unless second false edits is = is
 
 -- ---- the effects
 
-alert_time : (now : ℕ) (names : LineNames) (attempt : CheckAttempt) (new : ℤ) (output : List ℕ) → (alert_line now names attempt new output).time ≡ now
+alert_time : (now : ℕ) (names : LineNames) (attempt : Attempt) (new : ℤ) (output : List ℕ) → (alert_line now names attempt new output).time ≡ now
 unfolding alert_line
 alert_time now names attempt new output = refl
 
-known_effect : (now : ℕ) (object : Object) (names : LineNames) (attempt : CheckAttempt) (new : ℤ) (output : List ℕ) (old : Status)
+known_effect : (now : ℕ) (object : Object) (names : LineNames) (attempt : Attempt) (new : ℤ) (output : List ℕ) (old : Status)
     → IsEffect now (known_edits now object names attempt new output old)
 known_effect now object names attempt new output old =
     before_effect now (only_if (differs attempt new old) (edit.Line (alert_line now names attempt new output))) _

@@ -7,7 +7,7 @@ use Rattle.lq_events.specs.declared.status.Downtime.{Downtime}
 use Rattle.lq_events.specs.declared.status.Status.{Status}
 use Rattle.lq_events.specs.declared.update.Update.{Update}
 use Rattle.lq_live.specs.State.{LineNames, State, names_of, status_of, with_status}
-use Rattle.lq_live.specs.Results.{check_attempt, differs, ends_acknowledgement, is_ok, most_code}
+use Rattle.lq_live.specs.Results.{Attempt, check_attempt, differs, ends_acknowledgement, is_ok, most_code}
 use Rattle.lq_live.specs.Downtimes.{after, begin, due, only_if}
 use Rattle.lq_live.specs.Effects.{AcknowledgeProblem, AddComment, CheckResult, Command, DelComment, DelDowntime, DisableNotifications, DisableNotificationsOf, EnableNotifications, EnableNotificationsOf, NewComment, RemoveAcknowledgement, ScheduleDowntime, Unknown, acknowledge_as, alert_line, comment_of, downtime_of, goes_with_acknowledgement, holds, is_named, is_taken}
 use Rattle.lq_live.specs.Edits.{depth_line, make_edit, play_edits}
@@ -15,7 +15,6 @@ use Rattle.lq_live.specs.Ids.{HasRisingIds, IdsRise, comment_id, downtime_id}
 use Rattle.lq_live.specs.Order.{EditAt, EditsAt, additions, after_all, all_additions}
 use Rattle.lq_live.specs.Step.{second_after}
 use Rattle.lq_live.specs.StepEdits.{acknowledge_edits_in, effect_edits, result_edits}
-use Rattle.lq_live.specs.declared.check_result.CheckAttempt.{CheckAttempt}
 use Rattle.lq_live.specs.declared.edit.Edit.{Edit}
 use Rattle.lq_live.specs.declared.edit.Edit.TheVariants as edit
 use Rattle.lq_live.specs.declared.event.Event.{Event}
@@ -156,7 +155,7 @@ result_given : (s : State) (base : Base) (object : Object) (new : ℤ) (output :
 result_given s base object new output None old = tt
 result_given s base object new output (Some names) None = tt
 result_given s base object new output (Some names) (Some old) =
-    let attempt : CheckAttempt = check_attempt base object new old in
+    let attempt : Attempt = check_attempt base object new old in
     given_append s.next_downtime s.next_comment (only_if (differs attempt new old) (edit.Line (alert_line s.now names attempt new output))) _
     (given_only_if s.next_downtime s.next_comment (differs attempt new old) (edit.Line (alert_line s.now names attempt new output)) tt)
     (given_append s.next_downtime s.next_comment (only_if (ends_acknowledgement new old) (edit.EndAcknowledgement object)) _

@@ -13,15 +13,14 @@ use Rattle.lq_events.specs.declared.update.Update.{Update}
 use Rattle.lq_log.specs.Written.{written}
 use Rattle.lq_log.specs.declared.written.Form.TheVariants as form
 use Rattle.lq_live.specs.State.{LineNames, State, names_of, status_of}
-use Rattle.lq_live.specs.Results.{check_attempt, differs, ends_acknowledgement, is_ok, most_code, status_after}
+use Rattle.lq_live.specs.Results.{Attempt, check_attempt, differs, ends_acknowledgement, is_ok, most_code, status_after}
 use Rattle.lq_live.specs.Downtimes.{after, change_downtimes, crosses, depth, due, happen, happen_all, line_if, only_if, word_of}
 use Rattle.lq_live.specs.Effects.{AcknowledgeProblem, AddComment, CheckResult, Command, DelComment, DelDowntime, DisableNotifications, DisableNotificationsOf, EnableNotifications, EnableNotificationsOf, NewComment, NewDowntime, RemoveAcknowledgement, ScheduleDowntime, Unknown, acknowledge_in, add_line, alert_line, check_result, command_of, comment_of, downtime_of, effect_of, holds, is_named, is_taken, remove_downtime, remove_found, result_of, schedule, take_result, when}
 use Rattle.lq_live.specs.Edits.{change_with, depth_in, depth_line, depth_line_of, make_edit, play_edits, written_lines}
 use Rattle.lq_live.specs.Kept.{at_second}
 use Rattle.lq_live.specs.Order.{after_all, due_lines}
 use Rattle.lq_live.specs.Step.{ready, second_after, step}
-use Rattle.lq_live.specs.StepEdits.{acknowledge_edits_in, advance_edits, cancel_line, check_edits, edits_at, effect_edits, event_edit, known_edits, remove_downtime_edits, result_edits, step_edits}
-use Rattle.lq_live.specs.declared.check_result.CheckAttempt.{CheckAttempt}
+use Rattle.lq_live.specs.StepEdits.{acknowledge_edits_in, advance_edits, cancel_line, check_edits, edits_at, effect_edits, event_edit, known_edits, remove_downtime_edits, result_edits}
 use Rattle.lq_live.specs.declared.edit.DepthLine.{DepthLine}
 use Rattle.lq_live.specs.declared.edit.Edit.{Edit}
 use Rattle.lq_live.specs.declared.edit.Edit.TheVariants as edit
@@ -109,7 +108,7 @@ alone_plays : (test : Bool) (edit : Edit) (changed s : State) → make_edit edit
 alone_plays true edit changed s is = is
 alone_plays false edit changed s is = refl
 
-known_plays : (object : Object) (names : LineNames) (attempt : CheckAttempt) (new : ℤ) (output : List ℕ) (old : Status) (s : State)
+known_plays : (object : Object) (names : LineNames) (attempt : Attempt) (new : ℤ) (output : List ℕ) (old : Status) (s : State)
     → play_edits (known_edits s.now object names attempt new output old) s ≡ take_result object names attempt new output old s
 known_plays object names attempt new output old s =
     one_plays (differs attempt new old) (edit.Line (alert_line s.now names attempt new output)) _ s
@@ -188,7 +187,7 @@ step_by s update =
     effect_plays (command_of update.act) (at_second (second_after s update) s) (due (second_after s update) s.downtimes) (ready_by s update).log
     ∙ ap (effect_of (command_of update.act)) (sym (ready_is s update))
 
-edits_played : (s : State) (update : Update) → play_edits (edits_at (second_after s update) s update) s ≡ step s update
+pub edits_played : (s : State) (update : Update) → play_edits (edits_at (second_after s update) s update) s ≡ step s update
 unfolding advance_edits
 edits_played s update =
     let second : ℕ = second_after s update in
@@ -199,7 +198,3 @@ edits_played s update =
     ∙ ap (play_edits (line ∷ changes)) (events_played events s.base (at_second second s) refl)
     ∙ ap (play_edits changes) (ready_is s update)
     ∙ step_by s update
-
-pub step_edits_played : (s : State) (update : Update) → play_edits (step_edits s update) s ≡ step s update
-unfolding step_edits
-step_edits_played s update = edits_played s update

@@ -16,9 +16,8 @@ use Rattle.lq_events.specs.declared.update.Act.TheVariants as act
 use Rattle.lq_log.specs.Written.{written}
 use Rattle.lq_log.specs.declared.written.Form.TheVariants as form
 use Rattle.lq_live.specs.State.{State, LineNames, names_of, status_of, with_status}
-use Rattle.lq_live.specs.Results.{check_attempt, most_code, differs, ends_acknowledgement, status_after, is_ok, is_bar}
+use Rattle.lq_live.specs.Results.{Attempt, check_attempt, most_code, differs, ends_acknowledgement, status_after, is_ok, is_bar}
 use Rattle.lq_live.specs.Downtimes.{change_downtimes}
-use Rattle.lq_live.specs.declared.check_result.CheckAttempt.{CheckAttempt}
 
 -- whether the base holds an object
 abbrev pub holds : Base → Object → Bool
@@ -45,14 +44,14 @@ pub record NewComment : Type 0 where
 
 -- its entry type is 1 where somebody makes it, and 4 where it comes with an acknowledgement
 abbrev pub comment_of : ℕ → Object → NewComment → State → Comment
-comment_of entry_type object new s = record {
+comment_of entry_type object given s = record {
   id = s.next_comment;
   object = object;
-  author = new.author;
-  text = new.text;
+  author = given.author;
+  text = given.text;
   time = s.now;
   entry_type = entry_type;
-  persistent = if new.persistent == 0 then 0 else 1;
+  persistent = if given.persistent == 0 then 0 else 1;
 }
 
 abbrev pub add_comment : Comment → State → State
@@ -82,15 +81,15 @@ end_acknowledgement object s = record s {
 }
 
 abbrev pub acknowledge_in : Option Status → Object → ℕ → NewComment → State → State
-acknowledge_in None object sticky new s = s
-acknowledge_in (Some old) object sticky new s =
+acknowledge_in None object sticky given s = s
+acknowledge_in (Some old) object sticky given s =
     if is_ok old.state then s
-    else add_comment (comment_of 4 object new s)
+    else add_comment (comment_of 4 object given s)
     (with_status (acknowledge_as (if sticky == 2 then 2 else 1)) object s)
 
 -- only where the state isn't 0
 abbrev pub acknowledge : Object → ℕ → NewComment → State → State
-acknowledge object sticky new s = acknowledge_in (status_of s object) object sticky new s
+acknowledge object sticky given s = acknowledge_in (status_of s object) object sticky given s
 
 abbrev pub remove_acknowledgement : Object → State → State
 remove_acknowledgement object s =
@@ -100,14 +99,14 @@ remove_acknowledgement object s =
 
 -- ---- check results
 
-unfoldable pub alert_line : ℕ → LineNames → CheckAttempt → ℤ → List ℕ → LogEntry
+unfoldable pub alert_line : ℕ → LineNames → Attempt → ℤ → List ℕ → LogEntry
 alert_line now names attempt new output =
     written now
     (form.Alert names.host names.service new attempt.hard attempt.number
     (before_first is_bar output))
 
 -- the line, the end of the acknowledgement, the status
-abbrev pub take_result : Object → LineNames → CheckAttempt → ℤ → List ℕ → Status → State → State
+abbrev pub take_result : Object → LineNames → Attempt → ℤ → List ℕ → Status → State → State
 take_result object names attempt new output old s =
     with_status (λ _. status_after s.now attempt new output old) object
     (when (ends_acknowledgement new old) (end_acknowledgement object)
@@ -140,22 +139,22 @@ pub record NewDowntime : Type 0 where
 
 -- it is fixed, has no trigger, begins before it ends, isn't over, and its end can be written
 abbrev pub is_taken : ℕ → NewDowntime → Bool
-is_taken now new =
-    new.fixed == 1 && new.trigger == 0 && nat_lt new.start new.end && nat_lt now new.end
-    && nat_lt new.end 1_000_000_000_000
+is_taken now asked =
+    asked.fixed == 1 && asked.trigger == 0 && nat_lt asked.start asked.end && nat_lt now asked.end
+    && nat_lt asked.end 1_000_000_000_000
 
 -- it is active at once where its start isn't past the present second
 abbrev pub downtime_of : NewDowntime → State → Downtime
-downtime_of new s = record {
+downtime_of asked s = record {
   id = s.next_downtime;
-  object = new.object;
-  author = new.author;
-  comment = new.text;
+  object = asked.object;
+  author = asked.author;
+  comment = asked.text;
   entry_time = s.now;
-  start = new.start;
-  end = new.end;
-  active = nat_le new.start s.now;
-  duration = new.duration;
+  start = asked.start;
+  end = asked.end;
+  active = nat_le asked.start s.now;
+  duration = asked.duration;
 }
 
 abbrev pub add_downtime : Downtime → State → State
@@ -164,8 +163,8 @@ add_downtime downtime s =
     (record s { next_downtime = s.next_downtime + 1 })
 
 abbrev pub schedule : NewDowntime → State → State
-schedule new s =
-    when (holds s.base new.object && is_taken s.now new) (add_downtime (downtime_of new s)) s
+schedule asked s =
+    when (holds s.base asked.object && is_taken s.now asked) (add_downtime (downtime_of asked s)) s
 
 abbrev pub remove_found : Option Downtime → ObjectKind → ℕ → State → State
 remove_found None kind id s = s
@@ -263,12 +262,12 @@ command_of act.Unknown = Unknown
 
 abbrev pub effect_of : Command → State → State
 effect_of (CheckResult object code output) s = check_result object code output s
-effect_of (AddComment object new) s =
-    when (holds s.base object) (add_comment (comment_of 1 object new s)) s
+effect_of (AddComment object given) s =
+    when (holds s.base object) (add_comment (comment_of 1 object given s)) s
 effect_of (DelComment kind id) s = remove_comment kind id s
-effect_of (AcknowledgeProblem object sticky new) s = acknowledge object sticky new s
+effect_of (AcknowledgeProblem object sticky given) s = acknowledge object sticky given s
 effect_of (RemoveAcknowledgement object) s = remove_acknowledgement object s
-effect_of (ScheduleDowntime new) s = schedule new s
+effect_of (ScheduleDowntime asked) s = schedule asked s
 effect_of (DelDowntime kind id) s = remove_downtime kind id s
 effect_of (EnableNotificationsOf object) s = notify_of object 1 s
 effect_of (DisableNotificationsOf object) s = notify_of object 0 s

@@ -7,14 +7,18 @@ use Rattle.lq_records.specs.declared.base.Base.{Base}
 use Rattle.lq_events.specs.declared.status.Status.{Status}
 use Rattle.lq_records.specs.declared.object.Object.{Object}
 use Rattle.lq_records.specs.declared.object.Object.TheVariants as object
-use Rattle.lq_live.specs.declared.check_result.CheckAttempt.{CheckAttempt}
 
 -- ---- type and attempt
 
-abbrev pub hard_at : ℕ → CheckAttempt
+-- whether a state is hard, and the number of the attempt that found it
+pub record Attempt : Type 0 where
+  pub hard : Bool
+  pub number : ℕ
+
+abbrev pub hard_at : ℕ → Attempt
 hard_at number = record { hard = true; number = number }
 
-abbrev pub soft_at : ℕ → CheckAttempt
+abbrev pub soft_at : ℕ → Attempt
 soft_at number = record { hard = false; number = number }
 
 abbrev pub is_ok : ℤ → Bool
@@ -25,7 +29,7 @@ is_soft old = old.state_type == 0
 
 -- A service's result by its largest number of attempts, its new state and its old status. A soft
 -- recovery keeps SOFT and raises the attempt.
-abbrev pub service_attempt : ℕ → ℤ → Status → CheckAttempt
+abbrev pub service_attempt : ℕ → ℤ → Status → Attempt
 service_attempt most new old =
     if is_ok new
     then (if not (is_ok old.state) && is_soft old
@@ -45,7 +49,7 @@ most_attempts base place =
     option_map_or (λ service. service.fields.max_check_attempts) (slice_get base.services place) 1
 
 -- a host's result is hard at once
-abbrev pub check_attempt : Base → Object → ℤ → Status → CheckAttempt
+abbrev pub check_attempt : Base → Object → ℤ → Status → Attempt
 check_attempt base (object.Host id) new old = hard_at 1
 check_attempt base (object.Service id) new old =
     service_attempt (most_attempts base id.0) new old
@@ -61,7 +65,7 @@ abbrev pub type_number : Bool → ℕ
 type_number hard = if hard then 1 else 0
 
 -- an alert line is written where state, type or attempt differ from before
-abbrev pub differs : CheckAttempt → ℤ → Status → Bool
+abbrev pub differs : Attempt → ℤ → Status → Bool
 differs attempt new old =
     not (int_eq new old.state && type_number attempt.hard == old.state_type
     && attempt.number == old.current_attempt)
@@ -79,7 +83,7 @@ abbrev pub is_first_or_new : ℤ → ℤ → Status → Bool
 is_first_or_new new before old = old.has_been_checked == 0 || not (int_eq new before)
 
 -- the status after a result of a second
-unfoldable pub status_after : ℕ → CheckAttempt → ℤ → List ℕ → Status → Status
+unfoldable pub status_after : ℕ → Attempt → ℤ → List ℕ → Status → Status
 status_after now attempt new output old = record {
   state = new;
   state_type = if is_ok new then 1 else type_number attempt.hard;

@@ -13,7 +13,7 @@ use Rattle.lq_events.specs.declared.update.Update.{Update}
 use Rattle.lq_log.specs.Written.{written}
 use Rattle.lq_log.specs.declared.written.Form.TheVariants as form
 use Rattle.lq_live.specs.State.{LineNames, State, names_of, status_of}
-use Rattle.lq_live.specs.Results.{check_attempt, most_code, differs, ends_acknowledgement, is_ok, status_after}
+use Rattle.lq_live.specs.Results.{Attempt, check_attempt, most_code, differs, ends_acknowledgement, is_ok, status_after}
 use Rattle.lq_live.specs.Downtimes.{due, only_if, word_of}
 use Rattle.lq_live.specs.Effects.{AcknowledgeProblem, AddComment, CheckResult, Command, DelComment, DelDowntime, DisableNotifications, DisableNotificationsOf, EnableNotifications, EnableNotificationsOf, NewComment, NewDowntime, RemoveAcknowledgement, ScheduleDowntime, Unknown, alert_line, command_of, comment_of, downtime_of, holds, is_named, is_taken}
 use Rattle.lq_live.specs.Step.{second_after}
@@ -33,7 +33,10 @@ Adds old new more = new ≡ old ++ more
 
 -- ---- check results
 
-abbrev pub known_edits : ℕ → Object → LineNames → CheckAttempt → ℤ → List ℕ → Status → List Edit
+abbrev pub attempt_of : CheckAttempt → Attempt
+attempt_of attempt = record { hard = attempt.hard; number = attempt.number }
+
+abbrev pub known_edits : ℕ → Object → LineNames → Attempt → ℤ → List ℕ → Status → List Edit
 known_edits now object names attempt new output old =
     only_if (differs attempt new old) (edit.Line (alert_line now names attempt new output))
     ++ (only_if (ends_acknowledgement new old) (edit.EndAcknowledgement object)
@@ -56,19 +59,19 @@ check_edits object code output s =
 -- ---- comments and acknowledgements
 
 abbrev pub comment_edits : Object → NewComment → State → List Edit
-comment_edits object new s =
-    only_if (holds s.base object) (edit.AddComment (comment_of 1 object new s))
+comment_edits object given s =
+    only_if (holds s.base object) (edit.AddComment (comment_of 1 object given s))
 
 abbrev pub acknowledge_edits_in : Option Status → Object → ℕ → NewComment → State → List Edit
-acknowledge_edits_in None object sticky new s = []
-acknowledge_edits_in (Some old) object sticky new s =
+acknowledge_edits_in None object sticky given s = []
+acknowledge_edits_in (Some old) object sticky given s =
     if is_ok old.state then []
     else edit.SetAcknowledgement object (if sticky == 2 then 2 else 1)
-    ∷ edit.AddComment (comment_of 4 object new s) ∷ []
+    ∷ edit.AddComment (comment_of 4 object given s) ∷ []
 
 abbrev pub acknowledge_edits : Object → ℕ → NewComment → State → List Edit
-acknowledge_edits object sticky new s =
-    acknowledge_edits_in (status_of s object) object sticky new s
+acknowledge_edits object sticky given s =
+    acknowledge_edits_in (status_of s object) object sticky given s
 
 abbrev pub remove_acknowledgement_edits : Object → State → List Edit
 remove_acknowledgement_edits object s =
@@ -91,9 +94,10 @@ request_of request = record {
 }
 
 abbrev pub schedule_edits : NewDowntime → State → List Edit
-schedule_edits new s =
-    only_if (holds s.base new.object && is_taken s.now new)
-    (edit.AddDowntime (downtime_of new s) (depth_line s.base s.now (codes "STARTED") new.object))
+schedule_edits asked s =
+    only_if (holds s.base asked.object && is_taken s.now asked)
+    (edit.AddDowntime (downtime_of asked s)
+    (depth_line s.base s.now (codes "STARTED") asked.object))
 
 abbrev pub cancel_line : Option Downtime → State → Option DepthLine
 cancel_line found s = option_and_then
@@ -117,11 +121,11 @@ notify_edits object on s = only_if (holds s.base object) (edit.SetNotifications 
 
 abbrev pub effect_edits : Command → State → List Edit
 effect_edits (CheckResult object code output) s = check_edits object code output s
-effect_edits (AddComment object new) s = comment_edits object new s
+effect_edits (AddComment object given) s = comment_edits object given s
 effect_edits (DelComment kind id) s = edit.RemoveComment kind id ∷ []
-effect_edits (AcknowledgeProblem object sticky new) s = acknowledge_edits object sticky new s
+effect_edits (AcknowledgeProblem object sticky given) s = acknowledge_edits object sticky given s
 effect_edits (RemoveAcknowledgement object) s = remove_acknowledgement_edits object s
-effect_edits (ScheduleDowntime new) s = schedule_edits new s
+effect_edits (ScheduleDowntime asked) s = schedule_edits asked s
 effect_edits (DelDowntime kind id) s = remove_downtime_edits kind id s
 effect_edits (EnableNotificationsOf object) s = notify_edits object 1 s
 effect_edits (DisableNotificationsOf object) s = notify_edits object 0 s

@@ -3,9 +3,9 @@ ghost use Rattle.std.specs.List.{before_first, after_first, slice_get};
 ghost use Rattle.lq_live.specs.Downtimes.{only_if};
 ghost use Rattle.lq_live.specs.Effects.{alert_line};
 ghost use Rattle.lq_live.specs.Kept.{state_at};
-ghost use Rattle.lq_live.specs.Results.{check_attempt, differs, ends_acknowledgement, is_bar, is_first_or_new, is_ok, most_attempts, most_code, service_attempt, status_after, type_number};
+ghost use Rattle.lq_live.specs.Results.{check_attempt, differs, ends_acknowledgement, hard_at, is_bar, is_first_or_new, is_ok, most_attempts, most_code, service_attempt, status_after, type_number};
 ghost use Rattle.lq_live.specs.State.{line_names, names_of, status_of};
-ghost use Rattle.lq_live.specs.StepEdits.{Adds, check_edits, effect_in, is_of_checks, known_edits, result_edits};
+ghost use Rattle.lq_live.specs.StepEdits.{Adds, attempt_of, check_edits, effect_in, is_of_checks, known_edits, result_edits};
 ghost use Rattle.lq_live.specs.declared.edit.Edit.TheVariants as edit;
 
 use crate::context::StepContext;
@@ -119,7 +119,7 @@ impl<'a> StepContext<'a> {
         ensures { OnOk result (Adds edits.old.items edits.new.items (known_edits
             self.entry.second check.entry.object
             (line_names check.entry.name.host.now check.entry.name.service.now)
-            check.entry.attempt check.entry.state check.entry.output.now old.now)) }
+            (attempt_of check.entry.attempt) check.entry.state check.entry.output.now old.now)) }
     {
         self.push_alert(edits, check, old)?;
         push_end(edits, check, old)?;
@@ -136,10 +136,10 @@ impl<'a> StepContext<'a> {
         old: &Status,
     ) -> Result<(), Memory>
         ensures { OnOk result (Adds edits.old.items edits.new.items (only_if
-            (differs check.entry.attempt check.entry.state old.now)
+            (differs (attempt_of check.entry.attempt) check.entry.state old.now)
             (edit.Line (alert_line self.entry.second
             (line_names check.entry.name.host.now check.entry.name.service.now)
-            check.entry.attempt check.entry.state check.entry.output.now)))) }
+            (attempt_of check.entry.attempt) check.entry.state check.entry.output.now)))) }
     {
         if !differs(check.attempt, check.state, old) {
             return Ok(());
@@ -152,7 +152,7 @@ impl<'a> StepContext<'a> {
     fn alert_line(self, check: CheckResult<'_>) -> Result<LogEntry, Memory>
         ensures { IfOk result (λ entry. entry ≡ alert_line self.entry.second
             (line_names check.entry.name.host.now check.entry.name.service.now)
-            check.entry.attempt check.entry.state check.entry.output.now) }
+            (attempt_of check.entry.attempt) check.entry.state check.entry.output.now) }
     {
         let form = Form::Alert {
             host: Text::new(self.alloc, check.name.host)?,
@@ -169,7 +169,7 @@ impl<'a> StepContext<'a> {
     #[tactic(auto, unfolding(crate::specs::Results::status_after))]
     fn status_after(self, check: CheckResult<'_>, old: &Status) -> Result<Status, Memory>
         ensures { IfOk result (λ status. status ≡ status_after self.entry.second
-            check.entry.attempt check.entry.state check.entry.output.now old.now) }
+            (attempt_of check.entry.attempt) check.entry.state check.entry.output.now old.now) }
     {
         let ok = is_ok(check.state);
         let ends = ends_acknowledgement(check.state, old);
@@ -293,13 +293,13 @@ fn is_ok(state: i64) -> bool
 }
 
 fn hard_at(number: u32) -> CheckAttempt
-    ensures { result ≡ record { hard = true; number = number } }
+    ensures { attempt_of result ≡ hard_at number }
 {
     CheckAttempt { hard: true, number }
 }
 
 fn check_attempt(base: &Base, object: Object, new: i64, old: &Status) -> CheckAttempt
-    ensures { result ≡ check_attempt base.now object new old.now }
+    ensures { attempt_of result ≡ check_attempt base.now object new old.now }
 {
     match object {
         Object::Host(_) => hard_at(1),
@@ -309,7 +309,7 @@ fn check_attempt(base: &Base, object: Object, new: i64, old: &Status) -> CheckAt
 
 /// Type and attempt of a service's result, by its largest number of attempts.
 fn service_attempt(most: u32, new: i64, old: &Status) -> CheckAttempt
-    ensures { result ≡ service_attempt most new old.now }
+    ensures { attempt_of result ≡ service_attempt most new old.now }
 {
     let raised = u64::from(old.current_attempt) + 1;
     let capped = raised.min(u64::from(most)) as u32;
@@ -345,7 +345,7 @@ fn type_number(hard: bool) -> u8
 }
 
 fn differs(attempt: CheckAttempt, new: i64, old: &Status) -> bool
-    ensures { result ≡ differs attempt new old.now }
+    ensures { result ≡ differs (attempt_of attempt) new old.now }
 {
     !(new == old.state
         && type_number(attempt.hard) == old.state_type

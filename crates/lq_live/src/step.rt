@@ -1,8 +1,10 @@
 ghost use Rattle.std.specs.Prelude.{◌≡◌, ◌++◌, OnOk, IfOk};
 ghost use Rattle.lq_log.specs.Written.{written};
 ghost use Rattle.lq_log.specs.declared.written.Form.TheVariants as form;
+ghost use Rattle.lq_live.specs.Edits.{play_edits};
 ghost use Rattle.lq_live.specs.Ids.{HasRisingIds};
 ghost use Rattle.lq_live.specs.Kept.{IsIndexed, state_of};
+ghost use Rattle.lq_live.specs.Step.{step};
 ghost use Rattle.lq_live.specs.StepEdits.{Adds, advance_edits, edits_at, step_edits};
 
 use crate::context::StepContext;
@@ -13,7 +15,7 @@ use lq_log::{Form, TIME_LIMIT, make_line};
 use lq_records::{Memory, Text};
 use std::alloc::Global;
 
-/// The edits of the step that an update makes.
+/// The edits of the step that an update makes: playing them takes the step.
 #[tactic(auto, unfolding(crate::specs::StepEdits::step_edits))]
 pub(crate) fn step_edits(
     alloc: Global,
@@ -22,7 +24,10 @@ pub(crate) fn step_edits(
 ) -> Result<Vec<Edit>, Memory>
     requires index { IsIndexed live.now }
     requires ids { HasRisingIds (state_of live.now) }
-    ensures { IfOk result (λ edits. edits.items ≡ step_edits (state_of live.now) update.now) }
+    ensures edits { IfOk result
+        (λ edits. edits.items ≡ step_edits (state_of live.now) update.now) }
+    ensures plays { IfOk result (λ edits. play_edits edits.items (state_of live.now)
+        ≡ step (state_of live.now) update.now) }
 {
     let second = live.present.max(update.time.min(TIME_LIMIT - 1));
     let context = StepContext {
@@ -30,7 +35,8 @@ pub(crate) fn step_edits(
         live,
         second,
     };
-    context.edits(update)
+    let edits = context.edits(update)?;
+    Ok(edits)
 }
 
 impl<'a> StepContext<'a> {

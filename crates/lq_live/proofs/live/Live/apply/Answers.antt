@@ -11,7 +11,7 @@ use Rattle.lq_live.proofs.live.Live.apply.Goals as goal
 
 pub play-requires-clause-timely : goal.play-requires-clause-timely
 play-requires-clause-timely c =
-    timely_for (state_of c.self.inside.state) (state_of c.reserve.new.live) c.args.u.now c.in_ok-edits.edits.items c.self.invariant.state c.in_ok-edits.ensures c.reserve.ensures.kept
+    timely_for (state_of c.self.inside.state) (state_of c.reserve.new.live) c.args.u.now c.in_ok-edits.edits.items c.self.invariant.state c.in_ok-edits.ensures.edits c.reserve.ensures.kept
 
 pub overflow_add-self : goal.overflow_add-self
 overflow_add-self c = omega (arith, c.self.invariant.count, c.in_ok-reserve.ensures.lines, ap (λ s. length s.log) c.reserve.ensures.kept)
@@ -19,7 +19,7 @@ overflow_add-self c = omega (arith, c.self.invariant.count, c.in_ok-reserve.ensu
 next : (c : goal.After-self-1) → state_of c.look_ahead.new.live ≡ step (state_of c.self.inside.state) c.args.u.now
 next c = c.look_ahead.ensures.state
     ∙ step_for (state_of c.self.inside.state) (state_of c.reserve.new.live) (state_of c.play.new.live) c.args.u.now c.in_ok-edits.edits.items
-    c.in_ok-edits.ensures c.reserve.ensures.kept c.play.ensures.state
+    c.in_ok-edits.ensures.plays c.reserve.ensures.kept c.play.ensures.state
 
 pub invariant_of-self-2 : goal.invariant_of-self-2
 invariant_of-self-2 c = record {
