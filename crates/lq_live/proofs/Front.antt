@@ -1,5 +1,5 @@
--- A step adds lines at the end of the log, and the second doesn't go back.
-use Rattle.std.proofs.Common.{List, [], ◌∷◌, ◌++◌, sym, ap, ◌∙◌, subst, append-nil, append_assoc}
+-- A step adds lines at the end of the log, and keeps the base.
+use Rattle.std.proofs.Common.{◌≡◌, List, [], ◌∷◌, ◌++◌, sym, ap, ◌∙◌, subst, append-nil, append_assoc, refl}
 use Rattle.lq_records.specs.declared.object.Object.{Object}
 use Rattle.lq_records.specs.declared.object.Object.TheVariants as object
 use Rattle.lq_events.specs.declared.log_entry.LogEntry.{LogEntry}
@@ -50,3 +50,24 @@ step_front s update =
     (front_on s.log (ready_by s update).log (play_edits changes (ready_by s update)).log
     (front_on s.log _ (ready_by s update).log (more_front s.log _) (more_front _ _))
     (play_front changes (ready_by s update)))
+
+-- ---- the base
+
+status_base : (change : Status → Status) (object : Object) (s : State) → (with_status change object s).base ≡ s.base
+status_base change (object.Host id) s = refl
+status_base change (object.Service id) s = refl
+
+edit_base : (edit : Edit) (s : State) → (make_edit edit s).base ≡ s.base
+edit_base (edit.SetStatus object status) s = status_base (λ _. status) object s
+edit_base (edit.SetAcknowledgement object kind) s = status_base (acknowledge_as kind) object s
+edit_base (edit.SetNotifications object on) s = status_base (λ status. record status { notifications_enabled = on }) object s
+edit_base _ s = refl
+
+play_base : (edits : List Edit) (s : State) → (play_edits edits s).base ≡ s.base
+play_base [] s = refl
+play_base (edit ∷ edits) s = play_base edits (make_edit edit s) ∙ edit_base edit s
+
+pub step_base : (s : State) (update : Update) → (step s update).base ≡ s.base
+step_base s update =
+    ap (λ (t : State). t.base) (sym (step_by s update))
+    ∙ play_base (effect_edits (command_of update.act) (at_second (second_after s update) s)) (ready_by s update)

@@ -2,6 +2,7 @@
 use Rattle.std.specs.Prelude.{◌≡◌, ℕ, ◌+◌, ◌-◌, min, if◌then◌else◌, ◌<◌, ◌≤◌, ◌^◌, true, false, Option, Some, None, List, [], ◌∷◌, length, vec_len, vec_capacity}
 use Rattle.lq_events.specs.declared.log_entry.LogEntry.{LogEntry}
 use Rattle.lq_events.specs.declared.status.Downtime.{Downtime}
+use Rattle.lq_records.specs.Sound.{IsSound}
 use Rattle.lq_log.specs.declared.book.TheConstants.{TIME_LIMIT}
 use Rattle.lq_log.specs.Book.{last_time}
 use Rattle.lq_live.specs.State.{State}
@@ -83,8 +84,9 @@ pub record IsKept (s : State) : Type 0 where
 pub record IsIndexed (live : LiveState) : Type 0 where
   pub moment : AllFrom live.next_moment live.downtimes.items
 
--- what holds after so many updates: no update is without its line
+-- what holds after so many updates: the base is sound, and no update is without its line
 pub record KeepsAll (live : LiveState) (updates : ℕ) : Type 0 where
+  pub sound : IsSound live.base
   pub state : IsKept (state_of live)
   pub count : updates ≤ length live.log.entries
   pub index : IsIndexed live

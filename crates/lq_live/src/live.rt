@@ -5,6 +5,7 @@ ghost use Rattle.lq_live.specs.Ids.{IdsRise, comment_id, downtime_id};
 ghost use Rattle.lq_live.specs.Kept.{IsIndexed, state_of};
 ghost use Rattle.lq_live.specs.State.{Counted, opened, pending};
 ghost use Rattle.lq_log.specs.Book.{last_time};
+ghost use Rattle.lq_records.specs.Sound.{IsSound};
 ghost use Rattle.lq_live.specs.Always.{IsCurrent, IsFront};
 ghost use Rattle.lq_live.specs.Downtimes.{IsDue, due};
 ghost use Rattle.lq_live.specs.Step.{second_after, step};
@@ -40,10 +41,11 @@ impl Model for Live {
 }
 
 impl Live {
-    /// The opening state of a base: each object is pending, there are no downtimes and comments,
-    /// people are notified, and the present second is 0. The only error is out of memory.
+    /// The opening state of a sound base: each object is pending, there are no downtimes and
+    /// comments, people are notified, and the present second is 0. The only error is out of memory.
     pub fn open(alloc: Global, base: Base, log: LogBook) -> Result<Self, Memory>
-        requires { log.entries ≡ [] }
+        requires empty { log.entries ≡ [] }
+        requires sound { IsSound base }
         ensures { IfOk result (λ live. live ≡ record { state = opened base; count = 0 }) }
     {
         let host_status = pending_hosts(alloc, base.hosts.as_slice())?;
@@ -103,7 +105,8 @@ impl Live {
 
     /// The objects.
     pub fn base(&self) -> &Base
-        ensures { result.now ≡ self.now.state.base }
+        ensures all { result.now ≡ self.now.state.base }
+        ensures sound { IsSound result.now }
     {
         &self.state.base
     }

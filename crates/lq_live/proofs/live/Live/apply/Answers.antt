@@ -1,11 +1,12 @@
 use Rattle.std.proofs.Common.{◌≡◌, ◌∙◌, ◌+◌, sym, subst, ap, arith, length}
+use Rattle.lq_records.specs.Sound.{IsSound}
 use Rattle.lq_live.specs.Kept.{state_of}
 use Rattle.lq_live.specs.Always.{IsFront}
 use Rattle.lq_live.specs.State.{Counted, State}
 use Rattle.lq_live.specs.Step.{step}
 use Rattle.lq_live.proofs.Apply.{step_for, timely_for}
 use Rattle.lq_live.proofs.DueEvents.{due_is}
-use Rattle.lq_live.proofs.Front.{step_front}
+use Rattle.lq_live.proofs.Front.{step_base, step_front}
 use Rattle.lq_live.proofs.Kept.{step_kept, step_later, step_longer}
 use Rattle.lq_live.proofs.live.Live.apply.Goals as goal
 
@@ -23,6 +24,7 @@ next c = c.look_ahead.ensures.state
 
 pub invariant_of-self-2 : goal.invariant_of-self-2
 invariant_of-self-2 c = record {
+  sound = subst IsSound (sym (ap (λ (s : State). s.base) (next c) ∙ step_base (state_of c.self.inside.state) c.args.u.now)) c.self.invariant.sound;
   state = rw (next c) (step_kept (state_of c.self.inside.state) c.args.u.now c.self.invariant.state);
   count = omega (arith, c.self.invariant.count, ap (λ s. length s.log) (next c), step_longer (state_of c.self.inside.state) c.args.u.now c.self.invariant.state);
   index = c.look_ahead.ensures.index (c.play.ensures.index (c.reserve.ensures.index c.self.invariant.index));
