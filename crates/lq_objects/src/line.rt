@@ -130,8 +130,8 @@ impl<'a> Line<'a> {
 /// aren't needed in their block are left out. Outside a block each line that says something is
 /// there.
 pub(crate) fn needed_lines(alloc: Global, b: &[u8]) -> Result<Vec<Line<'_>>, AllocError>
-    ensures { IfOk result
-        (λ lines. (rules : Rules) → base_of_parts rules (parts_of lines.items) ≡ base_of b.now rules) }
+    ensures { IfOk result (λ lines. (rules : Rules)
+        → base_of_parts rules (parts_of lines.items) ≡ base_of b.now rules) }
 {
     let mut lines = Vec::with_capacity(alloc, b.len() / BYTES_A_LINE)?;
     let mut at = 0;

@@ -1,5 +1,5 @@
-ghost use Rattle.std.specs.Prelude.{◌≡◌, IfOk, map};
-ghost use Rattle.std.specs.List.{filter_map};
+ghost use Rattle.std.specs.Prelude.{◌≡◌, ◌++◌, ◌∷◌, [], if◌then◌else◌, nat_eq, IfOk, OnOk, map};
+ghost use Rattle.std.specs.List.{filter_map, list_any};
 ghost use Rattle.std.specs.Option.{option_to_list};
 ghost use Rattle.lq_objects.specs.Directories.{known};
 ghost use Rattle.lq_names.specs.Names.{place_of};
@@ -15,6 +15,9 @@ use indexmap::IndexSet;
 use lq_names::{Name, NameIndex};
 use lq_records::{HostId, Id, Items};
 use std::alloc::{AllocError, Global};
+
+/// The most names whose places are gone over one by one, where one is there before.
+const FEW: usize = 8;
 
 /// The objects that a block's directive names, in order and without repeats.
 pub(crate) fn ids<T: Id>(
@@ -44,8 +47,36 @@ fn ids_of<T: Id>(alloc: Global, index: &NameIndex, names: &[Name]) -> Result<Ite
     if names.len() == 1 {
         return id_at(alloc, index.find(&names[0]));
     }
+    if names.len() <= FEW {
+        return ids_at(alloc, &few_places(alloc, index, names)?);
+    }
     let places = places_of(alloc, index, names)?;
     ids_at(alloc, places.as_slice())
+}
+
+/// The same as `places_of`, where an index of the places would cost more than going over them.
+fn few_places(alloc: Global, index: &NameIndex, names: &[Name]) -> Result<Vec<u32>, AllocError>
+    ensures { IfOk result
+        (λ found. found.items ≡ distinct (filter_map (place_of index.now) names.now)) }
+{
+    let mut places = Vec::new(alloc);
+    for name in names {
+        if let Some(place) = index.find(name) {
+            push_new(&mut places, place)?;
+        }
+    }
+    Ok(places)
+}
+
+/// Adds a place at the end, unless it is there.
+fn push_new(places: &mut Vec<u32>, place: u32) -> Result<(), AllocError>
+    ensures { OnOk result (places.new.items ≡ (if list_any (nat_eq place) places.old.items
+        then places.old.items else places.old.items ++ place ∷ [])) }
+{
+    if !places.contains(&place) {
+        places.push(place)?;
+    }
+    Ok(())
 }
 
 /// The places of names that are there, in order and without repeats.
