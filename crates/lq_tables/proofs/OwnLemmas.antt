@@ -1,5 +1,5 @@
 -- The only one with an id, in a list whose ids rise.
-use Rattle.std.proofs.Common.{◌≡◌, ◌≢◌, ℕ, zero, suc, ◌+◌, ◌<◌, ◌≤◌, ◌==◌, Bool, true, false, Option, Some, None, Result, Ok, Err, MatchResult, Equal, List, [], ◌∷◌, length, map, get_or, slice_get, refl, sym, ap, arith, ◌∙◌, if◌then◌else◌}
+use Rattle.std.proofs.Common.{◌≡◌, ◌≢◌, ℕ, zero, suc, ◌+◌, ◌<◌, ◌≤◌, ◌==◌, Bool, true, false, Option, Some, None, Result, Ok, Err, MatchResult, Equal, List, [], ◌∷◌, length, map, get_or, slice_get, refl, sym, ap, subst, arith, ◌∙◌, if◌then◌else◌}
 use Rattle.std.specs.List.{find}
 use Rattle.std.specs.List.Sorted.{IsBinarySearchResult, IsNonDecreasingBy, IsSearchInRange}
 use Rattle.std.specs.Ordering.{nat_cmp, ordering_index}
@@ -9,10 +9,12 @@ use Rattle.std.proofs.lemmas.Cmp.{ranked}
 use Rattle.std.proofs.lemmas.Option.{slice_get-get_or}
 use Rattle.lq_schema.specs.declared.columns.Table.{Table}
 use Rattle.lq_schema.specs.declared.columns.Table.TheVariants as table
+use Rattle.lq_events.specs.declared.status.Comment.{Comment}
+use Rattle.lq_events.specs.declared.status.Downtime.{Downtime}
 use Rattle.lq_live.specs.Ids.{HasRisingIds, IdsRise, comment_id, downtime_id}
 use Rattle.lq_live.specs.State.{State}
 use Rattle.lq_tables.specs.About.{row_comment, row_downtime}
-use Rattle.lq_tables.specs.Own.{IsOwn}
+use Rattle.lq_tables.specs.Own.{HasIdsRising, IsOwn, row_id}
 use Rattle.lq_tables.specs.Rows.{rows_of}
 use Rattle.lq_tables.specs.declared.row.Row.{Row}
 use Rattle.lq_tables.specs.declared.row.Row.TheVariants as row
@@ -47,6 +49,26 @@ own_of s table.Downtimes rows has made =
 own_of s table.Comments rows has made =
     own_rows comment_id (row_comment s) (λ comment. row.Comment comment.id) s.next_comment s.comments rows has.comments (λ item. refl) made
 own_of s _ rows has made = tt
+
+-- what a state says of its lists is so of lists that are the same
+pub has_rising : (s : State) (downtimes : List Downtime) (comments : List Comment) → downtimes ≡ s.downtimes → comments ≡ s.comments
+    → IdsRise downtime_id 0 s.next_downtime downtimes → IdsRise comment_id 0 s.next_comment comments → HasRisingIds s
+has_rising s downtimes comments downtimes_same comments_same downtimes_rise comments_rise = record {
+  downtimes = subst (IdsRise downtime_id 0 s.next_downtime) downtimes_same downtimes_rise;
+  comments = subst (IdsRise comment_id 0 s.next_comment) comments_same comments_rise;
+}
+
+rows_rise : {A : Type 0} (row : A → Row) (least next : ℕ) (items : List A) → IdsRise (λ item. row_id (row item)) least next items
+    → IdsRise row_id least next (map row items)
+rows_rise row least next [] rise = tt
+rows_rise row least next (item ∷ items) rise = (rise.0, rise.1, rows_rise row (row_id (row item) + 1) next items rise.2)
+
+pub rising_of : (s : State) (t : Table) (rows : List Row) → HasRisingIds s → rows ≡ rows_of s t → HasIdsRising s t rows
+rising_of s table.Downtimes rows has made =
+    subst (IdsRise row_id 0 s.next_downtime) (sym made) (rows_rise (λ downtime. row.Downtime downtime.id) 0 s.next_downtime s.downtimes has.downtimes)
+rising_of s table.Comments rows has made =
+    subst (IdsRise row_id 0 s.next_comment) (sym made) (rows_rise (λ comment. row.Comment comment.id) 0 s.next_comment s.comments has.comments)
+rising_of s _ rows has made = tt
 
 -- ---- the search by id
 

@@ -1,10 +1,12 @@
--- The rows of downtimes and comments, each about its own.
-use Rattle.std.specs.Prelude.{◌≡◌, Some, List, map}
+-- The rows of downtimes and comments, each about its own, and their ids.
+use Rattle.std.specs.Prelude.{◌≡◌, ℕ, Some, List, map}
 use Rattle.lq_schema.specs.declared.columns.Table.{Table}
 use Rattle.lq_schema.specs.declared.columns.Table.TheVariants as table
+use Rattle.lq_live.specs.Ids.{IdsRise}
 use Rattle.lq_live.specs.State.{State}
 use Rattle.lq_tables.specs.About.{row_comment, row_downtime}
 use Rattle.lq_tables.specs.declared.row.Row.{Row}
+use Rattle.lq_tables.specs.declared.row.Row.TheVariants as row
 
 -- the rows of the downtimes are about the downtimes, one after the other, and those of the comments
 -- about the comments
@@ -12,3 +14,16 @@ abbrev pub IsOwn : State → Table → List Row → Type 0
 IsOwn s table.Downtimes rows = map (row_downtime s) rows ≡ map Some s.downtimes
 IsOwn s table.Comments rows = map (row_comment s) rows ≡ map Some s.comments
 IsOwn s table rows = Unit {0}
+
+-- the id of the downtime or of the comment that a row names
+abbrev pub row_id : Row → ℕ
+row_id (row.Downtime id) = id
+row_id (row.Comment id) = id
+row_id row = 0
+
+-- the ids of the rows of the downtimes rise from row to row, below the next downtime's id, and
+-- those of the comments below the next comment's; so no two rows have the same
+abbrev pub HasIdsRising : State → Table → List Row → Type 0
+HasIdsRising s table.Downtimes rows = IdsRise row_id 0 s.next_downtime rows
+HasIdsRising s table.Comments rows = IdsRise row_id 0 s.next_comment rows
+HasIdsRising s table rows = Unit {0}

@@ -31,6 +31,7 @@ use Rattle.lq_schema.specs.Kinds.{command_kind, comment_kind, contact_kind, down
 use Rattle.lq_schema.specs.Names.{full_name, table_name}
 use Rattle.lq_schema.specs.Value.{Value, Number, Words, empty_value}
 use Rattle.lq_live.specs.State.{State}
+use Rattle.lq_columns.specs.Cells.{natural}
 use Rattle.lq_records.specs.Object.{is_same_kind, kind_of}
 use Rattle.lq_records.specs.declared.object.Object.{Object}
 use Rattle.lq_records.specs.declared.object.ObjectKind.TheVariants as object_kind
@@ -41,9 +42,6 @@ use Rattle.lq_tables.specs.declared.schema.Entry.{Entry}
 -- 1 where something holds, else 0
 abbrev pub flag : Bool → Value
 flag holds = Number (pos (if holds then 1 else 0))
-
-abbrev pub count : ℕ → Value
-count number = Number (pos number)
 
 -- 1 for a service, 0 for a host
 abbrev pub service_flag : Object → Value
@@ -75,25 +73,25 @@ period_cell (Some item) period.Alias = Words item.alias
 -- each downtime is fixed, and none is triggered by another
 abbrev pub downtime_cell : Option Downtime → DowntimeColumn → Value
 downtime_cell None column = empty_value (downtime_kind column)
-downtime_cell (Some item) downtime.Id = count item.id
+downtime_cell (Some item) downtime.Id = natural item.id
 downtime_cell (Some item) downtime.Author = Words item.author
 downtime_cell (Some item) downtime.Comment = Words item.comment
-downtime_cell (Some item) downtime.EntryTime = count item.entry_time
-downtime_cell (Some item) downtime.StartTime = count item.start
-downtime_cell (Some item) downtime.EndTime = count item.end
-downtime_cell (Some item) downtime.Fixed = count 1
-downtime_cell (Some item) downtime.Duration = count item.duration
-downtime_cell (Some item) downtime.TriggeredBy = count 0
+downtime_cell (Some item) downtime.EntryTime = natural item.entry_time
+downtime_cell (Some item) downtime.StartTime = natural item.start
+downtime_cell (Some item) downtime.EndTime = natural item.end
+downtime_cell (Some item) downtime.Fixed = natural 1
+downtime_cell (Some item) downtime.Duration = natural item.duration
+downtime_cell (Some item) downtime.TriggeredBy = natural 0
 downtime_cell (Some item) downtime.IsService = service_flag item.object
 
 abbrev pub comment_cell : Option Comment → CommentColumn → Value
 comment_cell None column = empty_value (comment_kind column)
-comment_cell (Some item) comment.Id = count item.id
+comment_cell (Some item) comment.Id = natural item.id
 comment_cell (Some item) comment.Author = Words item.author
 comment_cell (Some item) comment.Comment = Words item.text
-comment_cell (Some item) comment.EntryTime = count item.time
-comment_cell (Some item) comment.EntryType = count item.entry_type
-comment_cell (Some item) comment.Persistent = count item.persistent
+comment_cell (Some item) comment.EntryTime = natural item.time
+comment_cell (Some item) comment.EntryType = natural item.entry_type
+comment_cell (Some item) comment.Persistent = natural item.persistent
 comment_cell (Some item) comment.IsService = service_flag item.object
 
 -- ---- the program and the schema
@@ -101,9 +99,9 @@ comment_cell (Some item) comment.IsService = service_flag item.object
 abbrev pub program_cell : State → ProgramColumn → Value
 program_cell s program.ProgramVersion = Words (codes "lqd 1")
 program_cell s program.EnableNotifications = flag s.notifications
-program_cell s program.NumHosts = count (length s.base.hosts)
-program_cell s program.NumServices = count (length s.base.services)
-program_cell s program.PresentSecond = count s.now
+program_cell s program.NumHosts = natural (length s.base.hosts)
+program_cell s program.NumServices = natural (length s.base.services)
+program_cell s program.PresentSecond = natural s.now
 
 -- the status table has the program's one row
 abbrev pub program_part : State → Row → ProgramColumn → Value

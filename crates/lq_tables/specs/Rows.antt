@@ -16,8 +16,8 @@ use Rattle.lq_tables.specs.declared.row.Row.{Row}
 use Rattle.lq_tables.specs.declared.row.Row.TheVariants as row
 
 -- the places in a list, in order
-abbrev pub places : {A : Type 0} → List A → List ℕ
-places items = range_with_len 0 (length items)
+abbrev pub places_of : {A : Type 0} → List A → List ℕ
+places_of items = range_with_len 0 (length items)
 
 -- each item with its place before it
 abbrev pub numbered : {A : Type 0} → List A → List (ℕ × A)
@@ -42,7 +42,7 @@ runs_on services host place =
 abbrev pub service_rows : List Service → HostGroupId → HostId → List Row
 service_rows services group host =
     map (λ place. row.GroupService group (record { 0 = place }))
-    (filter (runs_on services host) (places services))
+    (filter (runs_on services host) (places_of services))
 
 abbrev pub group_service_rows : List Service → ℕ × HostGroup → List Row
 group_service_rows services (place, group) =
@@ -51,25 +51,25 @@ group_service_rows services (place, group) =
 -- ---- tables
 
 abbrev pub rows_of : State → Table → List Row
-rows_of s table.Hosts = map (λ place. row.Host (record { 0 = place })) (places s.base.hosts)
+rows_of s table.Hosts = map (λ place. row.Host (record { 0 = place })) (places_of s.base.hosts)
 rows_of s table.Services =
-    map (λ place. row.Service (record { 0 = place })) (places s.base.services)
+    map (λ place. row.Service (record { 0 = place })) (places_of s.base.services)
 rows_of s table.HostGroups =
-    map (λ place. row.HostGroup (record { 0 = place })) (places s.base.host_groups)
+    map (λ place. row.HostGroup (record { 0 = place })) (places_of s.base.host_groups)
 rows_of s table.ServiceGroups =
-    map (λ place. row.ServiceGroup (record { 0 = place })) (places s.base.service_groups)
+    map (λ place. row.ServiceGroup (record { 0 = place })) (places_of s.base.service_groups)
 rows_of s table.Contacts =
-    map (λ place. row.Contact (record { 0 = place })) (places s.base.contacts)
+    map (λ place. row.Contact (record { 0 = place })) (places_of s.base.contacts)
 rows_of s table.ContactGroups =
-    map (λ place. row.ContactGroup (record { 0 = place })) (places s.base.contact_groups)
+    map (λ place. row.ContactGroup (record { 0 = place })) (places_of s.base.contact_groups)
 rows_of s table.Commands =
-    map (λ place. row.Command (record { 0 = place })) (places s.base.commands)
+    map (λ place. row.Command (record { 0 = place })) (places_of s.base.commands)
 rows_of s table.TimePeriods =
-    map (λ place. row.Period (record { 0 = place })) (places s.base.periods)
+    map (λ place. row.Period (record { 0 = place })) (places_of s.base.periods)
 rows_of s table.Downtimes = map (λ downtime. row.Downtime downtime.id) s.downtimes
 rows_of s table.Comments = map (λ comment. row.Comment comment.id) s.comments
 rows_of s table.Status = row.Status ∷ []
-rows_of s table.Columns = map row.Column (places schema)
+rows_of s table.Columns = map row.Column (places_of schema)
 rows_of s table.HostsByGroup = flat_map host_group_rows (numbered s.base.host_groups)
 rows_of s table.ServicesByGroup = flat_map service_group_rows (numbered s.base.service_groups)
 rows_of s table.ServicesByHostGroup =

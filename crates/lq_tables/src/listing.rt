@@ -1,7 +1,7 @@
 ghost use Rattle.std.specs.Prelude.{◌≡◌, [], ◌∷◌, ◌++◌, IfOk, OnOk, length, map, filter};
 ghost use Rattle.std.specs.List.{flat_map, range_with_len};
-ghost use Rattle.lq_tables.specs.Own.{IsOwn};
-ghost use Rattle.lq_tables.specs.Rows.{group_service_rows, host_group_rows, numbered, places, rows_of, runs_on, service_group_rows, service_rows};
+ghost use Rattle.lq_tables.specs.Own.{HasIdsRising, IsOwn};
+ghost use Rattle.lq_tables.specs.Rows.{group_service_rows, host_group_rows, numbered, places_of, rows_of, runs_on, service_group_rows, service_rows};
 ghost use Rattle.lq_tables.specs.Schema.{schema};
 ghost use Rattle.lq_tables.specs.declared.row.Row.TheVariants as row;
 
@@ -21,10 +21,12 @@ pub type Rows = Items<Row>;
 
 /// The rows of a table, in order: objects as the object file lists them, downtimes and comments by
 /// their ids, the members of each group as the group lists them. The row of each downtime and of
-/// each comment is about that one. The only error is out of memory.
+/// each comment is about that one, and their ids rise from row to row. The only error is out of
+/// memory.
 pub fn rows(alloc: Global, live: &Live, t: Table) -> Result<Rows, Memory>
     ensures all { IfOk result (λ rows. rows ≡ rows_of live.now.state t) }
     ensures own { IfOk result (λ rows. IsOwn live.now.state t rows) }
+    ensures ids { IfOk result (λ rows. HasIdsRising live.now.state t rows) }
 {
     let base = live.base();
     let (downtimes, comments) = (live.downtimes(), live.comments());
@@ -81,7 +83,7 @@ fn status_rows(alloc: Global) -> Result<Vec<Row>, Memory>
 }
 
 fn column_rows(alloc: Global) -> Result<Vec<Row>, Memory>
-    ensures { IfOk result (λ rows. rows.items ≡ map row.Column (places schema)) }
+    ensures { IfOk result (λ rows. rows.items ≡ map row.Column (places_of schema)) }
 {
     (0..entry_count()).map(Row::Column).collect(alloc)
 }
