@@ -7,7 +7,7 @@ use Rattle.std.specs.Ordering.{int_eq}
 use Rattle.lq_records.specs.declared.ids.HostId.{HostId}
 use Rattle.lq_events.specs.declared.status.Status.{Status}
 use Rattle.lq_columns.specs.Counts.{has_state, last_after, state_of_member, worst_of}
-use Rattle.lq_columns.specs.Severity.{host_severity, host_state, service_severity, service_state, severity_at}
+use Rattle.lq_columns.specs.Severity.{host_severity, host_state_by, service_severity, service_state_by, severity_at}
 
 -- ---- the severity of the worst state that passes a test, by an order from bad to good
 
@@ -71,7 +71,7 @@ last_by : (test : ℕ → Bool) (before : ℕ) (order : List ℕ) → last_after
 last_by test before [] = refl
 last_by test before (state ∷ order) = last_kept (test state) before state (filter test order) ∙ last_by test (cond (test state) state before) order
 
-service_by_tests : (is0 is1 is3 is2 : Bool) → service_state (cond is2 3 (cond is3 2 (cond is1 1 0))) ≡ cond is2 2 (cond is3 3 (cond is1 1 (cond is0 0 0)))
+service_by_tests : (is0 is1 is3 is2 : Bool) → service_state_by (cond is2 3 (cond is3 2 (cond is1 1 0))) ≡ cond is2 2 (cond is3 3 (cond is1 1 (cond is0 0 0)))
 service_by_tests is0 is1 is3 true = refl
 service_by_tests is0 is1 true false = refl
 service_by_tests is0 true false false = refl
@@ -79,27 +79,27 @@ service_by_tests true false false false = refl
 service_by_tests false false false false = refl
 
 pub greatest_is_worst_service : (statuses : List Status) (places : List ℕ) (severity state : ℕ)
-    → severity ≡ fold max 0 (map (severity_at service_severity statuses) places) → state ≡ service_state severity
+    → severity ≡ fold max 0 (map (severity_at service_severity statuses) places) → state ≡ service_state_by severity
     → state ≡ worst_of (0 ∷ 1 ∷ 3 ∷ 2 ∷ []) (filter_map (slice_get statuses) places)
 unfolding worst_of
 greatest_is_worst_service statuses places severity state is_greatest is_state =
     let has : ℕ → Bool = has_state (filter_map (slice_get statuses) places) in
-    is_state ∙ ap service_state (is_greatest ∙ greatest (2 ∷ 3 ∷ 1 ∷ []) (slice_get statuses) places 0 ∙ zero-max (severity_by has (2 ∷ 3 ∷ 1 ∷ [])))
+    is_state ∙ ap service_state_by (is_greatest ∙ greatest (2 ∷ 3 ∷ 1 ∷ []) (slice_get statuses) places 0 ∙ zero-max (severity_by has (2 ∷ 3 ∷ 1 ∷ [])))
     ∙ service_by_tests (has 0) (has 1) (has 3) (has 2)
     ∙ sym (last_by has 0 (0 ∷ 1 ∷ 3 ∷ 2 ∷ []))
 
-host_by_tests : (is0 is2 is1 : Bool) → host_state (cond is1 2 (cond is2 1 0)) ≡ cond is1 1 (cond is2 2 (cond is0 0 0))
+host_by_tests : (is0 is2 is1 : Bool) → host_state_by (cond is1 2 (cond is2 1 0)) ≡ cond is1 1 (cond is2 2 (cond is0 0 0))
 host_by_tests is0 is2 true = refl
 host_by_tests is0 true false = refl
 host_by_tests true false false = refl
 host_by_tests false false false = refl
 
 pub greatest_is_worst_host : (statuses : List Status) (members : List HostId) (severity state : ℕ)
-    → severity ≡ fold max 0 (map (λ id. severity_at host_severity statuses id.0) members) → state ≡ host_state severity
+    → severity ≡ fold max 0 (map (λ id. severity_at host_severity statuses id.0) members) → state ≡ host_state_by severity
     → state ≡ worst_of (0 ∷ 2 ∷ 1 ∷ []) (filter_map (λ id. slice_get statuses id.0) members)
 unfolding worst_of
 greatest_is_worst_host statuses members severity state is_greatest is_state =
     let has : ℕ → Bool = has_state (filter_map (λ id. slice_get statuses id.0) members) in
-    is_state ∙ ap host_state (is_greatest ∙ greatest (1 ∷ 2 ∷ []) (λ id. slice_get statuses id.0) members 0 ∙ zero-max (severity_by has (1 ∷ 2 ∷ [])))
+    is_state ∙ ap host_state_by (is_greatest ∙ greatest (1 ∷ 2 ∷ []) (λ id. slice_get statuses id.0) members 0 ∙ zero-max (severity_by has (1 ∷ 2 ∷ [])))
     ∙ host_by_tests (has 0) (has 2) (has 1)
     ∙ sym (last_by has 0 (0 ∷ 2 ∷ 1 ∷ []))

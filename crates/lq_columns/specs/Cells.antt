@@ -153,10 +153,10 @@ host_at s id None status column = empty_value (host_kind column)
 
 -- the value of a column of a host; the empty value where the base has no such host, or the column
 -- is of something else
-abbrev pub of_host : State → HostId → OwnColumn → Value
-of_host s id (own.Host column) =
+abbrev pub host_value : State → HostId → OwnColumn → Value
+host_value s id (own.Host column) =
     host_at s id (slice_get s.base.hosts id.0) (slice_get s.host_status id.0) column
-of_host s id column = empty_value (own_kind column)
+host_value s id column = empty_value (own_kind column)
 
 -- ---- services
 
@@ -174,7 +174,7 @@ service_at s id None status column = empty_value (service_kind column)
 
 -- the value of a column of a service; the empty value where the base has no such service, or the
 -- column is of something else
-abbrev pub of_service : State → ServiceId → OwnColumn → Value
-of_service s id (own.Service column) =
+abbrev pub service_value : State → ServiceId → OwnColumn → Value
+service_value s id (own.Service column) =
     service_at s id (slice_get s.base.services id.0) (slice_get s.service_status id.0) column
-of_service s id column = empty_value (own_kind column)
+service_value s id column = empty_value (own_kind column)

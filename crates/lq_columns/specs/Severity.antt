@@ -21,8 +21,8 @@ service_severity state =
     else 0
 
 -- the state of a service by its severity
-abbrev pub service_state : ℕ → ℕ
-service_state severity =
+abbrev pub service_state_by : ℕ → ℕ
+service_state_by severity =
     if severity == 3 then 2 else if severity == 2 then 3 else if severity == 1 then 1 else 0
 
 -- from bad to good: down, unreachable, up
@@ -30,5 +30,5 @@ abbrev pub host_severity : ℤ → ℕ
 host_severity state = if int_eq state (pos 1) then 2 else if int_eq state (pos 2) then 1 else 0
 
 -- the state of a host by its severity
-abbrev pub host_state : ℕ → ℕ
-host_state severity = if severity == 2 then 1 else if severity == 1 then 2 else 0
+abbrev pub host_state_by : ℕ → ℕ
+host_state_by severity = if severity == 2 then 1 else if severity == 1 then 2 else 0

@@ -8,7 +8,7 @@ ghost use Rattle.lq_columns.specs.Severity.{host_severity, severity_at};
 use crate::counted::{Counted, counts_at};
 use crate::scope::Scope;
 use crate::selection::{Selection, members_of_hosts};
-use crate::severity::{host_severity_at, host_state};
+use crate::severity::{host_severity_at, host_state_by};
 use lq_events::Status;
 use lq_live::Live;
 use lq_records::{HostGroupId, HostId};
@@ -100,7 +100,7 @@ fn worst_among(statuses: &[Status], members: &[HostId]) -> u8
     ensures { result
         ≡ worst_of (0 ∷ 2 ∷ 1 ∷ []) (filter_map (λ id. slice_get statuses.now id.0) members.now) }
 {
-    host_state(severity_among(statuses, members))
+    host_state_by(severity_among(statuses, members))
 }
 
 fn severity_among(statuses: &[Status], members: &[HostId]) -> u8

@@ -4,7 +4,7 @@ ghost use Rattle.std.specs.Option.{IfSome, IsSome};
 ghost use Rattle.lq_schema.specs.Kinds.{host_kind, own_kind};
 ghost use Rattle.lq_schema.specs.Value.{Number, Words, shown};
 ghost use Rattle.lq_schema.specs.declared.columns.OwnColumn.TheVariants as own;
-ghost use Rattle.lq_columns.specs.Cells.{host_at, host_cell, of_host};
+ghost use Rattle.lq_columns.specs.Cells.{host_at, host_cell, host_value};
 ghost use Rattle.lq_columns.specs.Plain.{IsHeldByHost, IsNumber, IsPlain, IsText};
 
 use crate::counters::services_value;
@@ -24,7 +24,7 @@ use std::alloc::Global;
 #[inline]
 pub fn host_number(live: &Live, column: HostColumn, id: HostId) -> Option<i128>
     ensures value { IfSome result (λ number.
-        of_host live.now.state id (own.Host column) ≡ Number number) }
+        host_value live.now.state id (own.Host column) ≡ Number number) }
     ensures given { IsNumber (host_kind column) → IsHeldByHost column → IsSome result }
 {
     let Some(host) = live.base().hosts.as_slice().get(id.0 as usize) else {
@@ -45,7 +45,7 @@ pub fn host_number(live: &Live, column: HostColumn, id: HostId) -> Option<i128>
 #[inline]
 pub fn host_text(live: &Live, column: HostColumn, id: HostId) -> Option<&str>
     ensures value { IfSome result (λ text.
-        of_host live.now.state id (own.Host column) ≡ Words text.now) }
+        host_value live.now.state id (own.Host column) ≡ Words text.now) }
     ensures given { IsText (host_kind column) → IsSome result }
 {
     let Some(host) = live.base().hosts.as_slice().get(id.0 as usize) else {
@@ -68,7 +68,7 @@ pub fn host_text(live: &Live, column: HostColumn, id: HostId) -> Option<&str>
 /// hosts, it is 0, an empty text or an empty list. The only error is out of memory; numbers and
 /// single texts take none.
 pub fn host_value<'a>(alloc: Global, live: &'a Live, c: Col, id: HostId) -> Result<Val<'a>, Memory>
-    ensures value { IfOk result (λ v. shown v ≡ of_host live.now.state id c.own) }
+    ensures value { IfOk result (λ v. shown v ≡ host_value live.now.state id c.own) }
     ensures plain { IsPlain (own_kind c.own) → IsOk result }
 {
     let OwnColumn::Host(column) = c.own else {

@@ -7,7 +7,7 @@ ghost use Rattle.lq_columns.specs.Severity.{service_severity, severity_at};
 use crate::counted::{Counted, counts_at};
 use crate::marks::{has_marked, marks_of};
 use crate::scope::Scope;
-use crate::severity::{service_severity_at, service_state};
+use crate::severity::{service_severity_at, service_state_by};
 use lq_events::Status;
 use lq_records::{Base, HostGroupId, HostId, ServiceGroupId, ServiceId};
 use std::alloc::Global;
@@ -66,7 +66,7 @@ impl<'a> Selection<'a> {
             (filter_map (slice_get statuses.now)
             (scope_places self.now.base.now self.now.scope)) }
     {
-        service_state(self.severity(statuses))
+        service_state_by(self.severity(statuses))
     }
 
     /// The greatest severity of their states.

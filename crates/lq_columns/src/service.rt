@@ -4,7 +4,7 @@ ghost use Rattle.std.specs.Option.{IfSome, IsSome};
 ghost use Rattle.lq_schema.specs.Kinds.{own_kind, service_kind};
 ghost use Rattle.lq_schema.specs.Value.{Number, Words, shown};
 ghost use Rattle.lq_schema.specs.declared.columns.OwnColumn.TheVariants as own;
-ghost use Rattle.lq_columns.specs.Cells.{of_service, service_at, service_cell};
+ghost use Rattle.lq_columns.specs.Cells.{service_value, service_at, service_cell};
 ghost use Rattle.lq_columns.specs.Plain.{IsHeldByService, IsNumber, IsPlain, IsText};
 
 use crate::empty::{empty_number, empty_text, empty_value};
@@ -21,7 +21,7 @@ use std::alloc::Global;
 #[inline]
 pub fn service_number(live: &Live, column: ServiceColumn, id: ServiceId) -> Option<i128>
     ensures value { IfSome result (λ number.
-        of_service live.now.state id (own.Service column) ≡ Number number) }
+        service_value live.now.state id (own.Service column) ≡ Number number) }
     ensures given { IsNumber (service_kind column) → IsHeldByService column → IsSome result }
 {
     let Some(service) = live.base().services.as_slice().get(id.0 as usize) else {
@@ -42,7 +42,7 @@ pub fn service_number(live: &Live, column: ServiceColumn, id: ServiceId) -> Opti
 #[inline]
 pub fn service_text(live: &Live, column: ServiceColumn, id: ServiceId) -> Option<&str>
     ensures value { IfSome result (λ text.
-        of_service live.now.state id (own.Service column) ≡ Words text.now) }
+        service_value live.now.state id (own.Service column) ≡ Words text.now) }
     ensures given { IsText (service_kind column) → IsSome result }
 {
     let Some(service) = live.base().services.as_slice().get(id.0 as usize) else {
@@ -67,7 +67,7 @@ pub fn service_value<'a>(
     c: Col,
     id: ServiceId,
 ) -> Result<Val<'a>, Memory>
-    ensures value { IfOk result (λ v. shown v ≡ of_service live.now.state id c.own) }
+    ensures value { IfOk result (λ v. shown v ≡ service_value live.now.state id c.own) }
     ensures plain { IsPlain (own_kind c.own) → IsOk result }
 {
     let OwnColumn::Service(column) = c.own else {

@@ -2,7 +2,7 @@
 
 ghost use Rattle.std.specs.Prelude.{◌≡◌};
 ghost use Rattle.lq_columns.specs.Counts.{state_of_member};
-ghost use Rattle.lq_columns.specs.Severity.{host_severity, host_state, service_severity, service_state, severity_at};
+ghost use Rattle.lq_columns.specs.Severity.{host_severity, host_state_by, service_severity, service_state_by, severity_at};
 
 use crate::counted::is_pending;
 use lq_events::Status;
@@ -39,8 +39,8 @@ fn service_severity(state: i64) -> u8
 }
 
 /// The state of a severity.
-pub(crate) fn service_state(severity: u8) -> u8
-    ensures { result ≡ service_state severity }
+pub(crate) fn service_state_by(severity: u8) -> u8
+    ensures { result ≡ service_state_by severity }
 {
     match severity {
         3 => 2,
@@ -74,8 +74,8 @@ fn host_severity(state: i64) -> u8
 }
 
 /// The state of a severity.
-pub(crate) fn host_state(severity: u8) -> u8
-    ensures { result ≡ host_state severity }
+pub(crate) fn host_state_by(severity: u8) -> u8
+    ensures { result ≡ host_state_by severity }
 {
     match severity {
         2 => 1,

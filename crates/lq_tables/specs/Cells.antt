@@ -22,7 +22,7 @@ use Rattle.lq_schema.specs.Kinds.{contact_group_kind, host_group_kind, own_kind,
 use Rattle.lq_schema.specs.Value.{Value, Words, Texts, Pairs, empty_value}
 use Rattle.lq_live.specs.State.{State}
 use Rattle.lq_columns.specs.Names.{contact_names_of, host_names_of}
-use Rattle.lq_columns.specs.Cells.{hosts_cell, of_host, of_service, services_cell}
+use Rattle.lq_columns.specs.Cells.{hosts_cell, host_value, service_value, services_cell}
 use Rattle.lq_columns.specs.declared.scope.Scope.TheVariants as scope
 use Rattle.lq_tables.specs.About.{row_command, row_comment, row_contact, row_contact_group, row_downtime, row_entry, row_host, row_host_group, row_period, row_service, row_service_group}
 use Rattle.lq_tables.specs.declared.row.Row.{Row}
@@ -75,11 +75,11 @@ service_group_part s (Some id) column =
 
 abbrev pub host_part : State → Option HostId → OwnColumn → Value
 host_part s None column = empty_value (own_kind column)
-host_part s (Some id) column = of_host s id column
+host_part s (Some id) column = host_value s id column
 
 abbrev pub service_part : State → Option ServiceId → OwnColumn → Value
 service_part s None column = empty_value (own_kind column)
-service_part s (Some id) column = of_service s id column
+service_part s (Some id) column = service_value s id column
 
 -- ---- all columns
 
