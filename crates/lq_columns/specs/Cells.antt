@@ -127,7 +127,8 @@ abbrev pub hosts_cell : State → HostGroupId → HostCounter → Value
 hosts_cell s group host_counter.NumHosts = natural (hosts_counted s group counted.All)
 hosts_cell s group host_counter.NumHostsUp = natural (hosts_counted s group (counted.In (pos 0)))
 hosts_cell s group host_counter.NumHostsDown = natural (hosts_counted s group (counted.In (pos 1)))
-hosts_cell s group host_counter.NumHostsUnreach = natural (hosts_counted s group (counted.In (pos 2)))
+hosts_cell s group host_counter.NumHostsUnreach =
+    natural (hosts_counted s group (counted.In (pos 2)))
 hosts_cell s group host_counter.NumHostsPending = natural (hosts_counted s group counted.Pending)
 hosts_cell s group host_counter.WorstHostState = natural (worst_host s group)
 

@@ -16,7 +16,7 @@ use lq_tables::{Row, cell, number_cell, rows, text_cell};
 use std::alloc::Global;
 
 /// What the body of a reply is written from.
-#[derive(Clone, Copy)]
+#[derive(Drop)]
 pub struct Page<'a> {
     /// Where the values of cells take their memory.
     pub alloc: Global,
@@ -29,7 +29,7 @@ pub struct Page<'a> {
 }
 
 /// What a line of a body shows.
-#[derive(Clone, Copy)]
+#[derive(Drop)]
 pub enum Line {
     /// The names of the columns.
     Names,
@@ -38,16 +38,16 @@ pub enum Line {
 }
 
 impl Page<'_> {
-    /// The line of the names, where it is asked for, and the lines of all rows. None where they have
-    /// too many bytes.
-    pub fn body(self, head: bool) -> Result<Option<Vec<u8>>, Memory>
+    /// The line of the names, where it is asked for, and the lines of all rows. None where they
+    /// have too many bytes.
+    pub fn body(&self, head: bool) -> Result<Option<Vec<u8>>, Memory>
         ensures { IfOk result (λ body. IsBody body
-            (csv (with_names head self.entry.columns.now
-            (map (line_of self.entry.live.now.state self.entry.columns.now)
-            (rows_of self.entry.live.now.state self.entry.table))))) }
+            (csv (with_names head self.now.columns.now
+            (map (line_of self.now.live.now.state self.now.columns.now)
+            (rows_of self.now.live.now.state self.now.table))))) }
     {
         let mut body = Vec::new(self.alloc);
-        if head && !self.push_line(&mut body, Line::Names)? {
+        if head && !self.push_line(&mut body, &Line::Names)? {
             return Ok(None);
         }
         let rows = rows(self.alloc, self.live, self.table)?;
@@ -58,13 +58,13 @@ impl Page<'_> {
     }
 
     /// Adds the lines of rows. False where the body is too large with them.
-    pub fn push_rows(self, body: &mut Vec<u8>, rows: &[Row]) -> Result<bool, Memory>
+    pub fn push_rows(&self, body: &mut Vec<u8>, rows: &[Row]) -> Result<bool, Memory>
         requires { length body.old.items ≤ reply_limit }
         ensures { IfOk result (λ fits. AddsText fits body.old.items body.new.items
-            (csv (map (line_of self.entry.live.now.state self.entry.columns.now) rows.now))) }
+            (csv (map (line_of self.now.live.now.state self.now.columns.now) rows.now))) }
     {
         for row in rows {
-            if !self.push_line(body, Line::Row(*row))? {
+            if !self.push_line(body, &Line::Row(*row))? {
                 return Ok(false);
             }
         }
@@ -72,9 +72,9 @@ impl Page<'_> {
     }
 
     /// Adds a line. False where the body is too large with it.
-    pub fn push_line(self, body: &mut Vec<u8>, line: Line) -> Result<bool, Memory>
+    pub fn push_line(&self, body: &mut Vec<u8>, line: &Line) -> Result<bool, Memory>
         ensures { IfOk result (λ fits. AddsText fits body.old.items body.new.items
-            (csv_line (texts_of self.entry.live.now.state line self.entry.columns.now))) }
+            (csv_line (texts_of self.now.live.now.state line.now self.now.columns.now))) }
     {
         let Some((first, later)) = self.columns.split_first() else {
             body.push(b'\n')?;
@@ -93,9 +93,10 @@ impl Page<'_> {
     }
 
     /// Adds what a line shows in a column.
-    fn push_text(self, body: &mut Vec<u8>, line: Line, column: &ShownColumn) -> Result<(), Memory>
+    fn push_text(&self, body: &mut Vec<u8>, line: &Line, column: &ShownColumn) -> Result<(), Memory>
         ensures { OnOk result
-            (body.new.items ≡ body.old.items ++ text_of self.entry.live.now.state line column.now) }
+            (body.new.items
+            ≡ body.old.items ++ text_of self.now.live.now.state line.now column.now) }
     {
         match line {
             Line::Names => push_name(body, column.column()),
@@ -104,18 +105,18 @@ impl Page<'_> {
     }
 
     /// Adds the text of a cell. A number and a text of the data take no memory of their own.
-    fn push_cell(self, body: &mut Vec<u8>, row: Row, shown: &ShownColumn) -> Result<(), Memory>
+    fn push_cell(&self, body: &mut Vec<u8>, row: &Row, shown: &ShownColumn) -> Result<(), Memory>
         ensures { OnOk result
             (body.new.items
-            ≡ body.old.items ++ cell_text (cell_of self.entry.live.now.state row shown.now)) }
+            ≡ body.old.items ++ cell_text (cell_of self.now.live.now.state row.now shown.now)) }
     {
         let column = shown.column();
         match shown.kind() {
-            ColKind::Int => match number_cell(self.live, column, &row) {
+            ColKind::Int => match number_cell(self.live, column, row) {
                 Some(number) => push_number(body, number),
                 None => self.push_any(body, row, column),
             },
-            ColKind::Str => match text_cell(self.live, column, &row) {
+            ColKind::Str => match text_cell(self.live, column, row) {
                 Some(text) => body.extend_from_slice(text.as_bytes()),
                 None => self.push_any(body, row, column),
             },
@@ -126,12 +127,12 @@ impl Page<'_> {
     /// Adds the text of a cell of any kind. It stands apart so that plain cells make no room for a
     /// value.
     #[inline(never)]
-    fn push_any(self, body: &mut Vec<u8>, row: Row, column: Col) -> Result<(), Memory>
+    fn push_any(&self, body: &mut Vec<u8>, row: &Row, column: Col) -> Result<(), Memory>
         ensures { OnOk result
             (body.new.items
-            ≡ body.old.items ++ cell_text (cell_of self.entry.live.now.state row column)) }
+            ≡ body.old.items ++ cell_text (cell_of self.now.live.now.state row.now column)) }
     {
-        let value = cell(self.alloc, self.live, self.table, column, &row)?;
+        let value = cell(self.alloc, self.live, self.table, column, row)?;
         push_value(body, &value)
     }
 }
