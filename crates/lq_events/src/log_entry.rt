@@ -1,7 +1,7 @@
 use lq_records::Text;
 
 /// What a log line tells, by the words that it begins with.
-#[derive(Drop)]
+#[derive(Clone, Drop)]
 pub enum Kind {
     HostAlert,
     ServiceAlert,
@@ -25,7 +25,7 @@ pub enum Kind {
 }
 
 /// What a log line says. What it doesn't speak of is 0 or empty.
-#[derive(Drop)]
+#[derive(Clone, Drop)]
 pub struct LogEntry {
     /// The second of the line, counted from the beginning of 1970, or that of the line before where
     /// it is greater.

@@ -1,7 +1,7 @@
 use lq_records::{Object, Text};
 
 /// What is known of a host's or a service's state. Seconds are counted from the beginning of 1970.
-#[derive(Drop)]
+#[derive(Clone, Drop)]
 pub struct Status {
     /// Of a host 0 up, 1 down, 2 unreachable; of a service 0 ok, 1 warning, 2 critical, 3 unknown.
     pub state: i64,
@@ -32,7 +32,7 @@ pub struct Status {
 }
 
 /// A time in which trouble of an object is expected.
-#[derive(Drop)]
+#[derive(Clone, Drop)]
 pub struct Downtime {
     /// Its number among all downtimes.
     pub id: u64,
@@ -52,7 +52,7 @@ pub struct Downtime {
 }
 
 /// A comment about an object.
-#[derive(Drop)]
+#[derive(Clone, Drop)]
 pub struct Comment {
     /// Its number among all comments.
     pub id: u64,
