@@ -1,12 +1,15 @@
 -- The entries of a log.
 use Rattle.std.specs.Prelude.{ℕ, ◌<◌, ◌≤◌, ⊤, List, [], ◌∷◌}
 use Rattle.lq_events.specs.declared.log_entry.LogEntry.{LogEntry}
-use Rattle.lq_log.specs.declared.book.TheConstants.{TIME_LIMIT}
 
 -- the entries of a book, and how many more it has room for
 pub record Book : Type 0 where
   pub entries : List LogEntry
   pub room : ℕ
+
+-- A second in brackets has at most 12 digits, so each that is written lies below this number.
+abbrev pub time_limit : ℕ
+time_limit = 1_000_000_000_000
 
 -- the time after entries, by the time before them
 abbrev pub time_after : ℕ → List LogEntry → ℕ
@@ -21,7 +24,7 @@ last_time entries = time_after 0 entries
 abbrev pub InOrderAfter : ℕ → List LogEntry → Type 0
 InOrderAfter before [] = ⊤
 InOrderAfter before (entry ∷ entries) =
-    (before ≤ entry.time) × (entry.time < TIME_LIMIT) × InOrderAfter entry.time entries
+    (before ≤ entry.time) × (entry.time < time_limit) × InOrderAfter entry.time entries
 
 abbrev pub InOrder : List LogEntry → Type 0
 InOrder entries = InOrderAfter 0 entries

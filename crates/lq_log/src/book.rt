@@ -1,6 +1,5 @@
-ghost use Rattle.std.specs.Prelude.{◌≡◌, ◌<◌, ◌≤◌, ◌^◌, ◌+◌, ◌++◌, ◌∷◌, ◌==◌, [], IsOk, OnErr, OnOk, length};
-ghost use Rattle.lq_log.specs.Book.{InOrder, last_time};
-ghost use Rattle.lq_log.specs.declared.book.TheConstants.{TIME_LIMIT};
+ghost use Rattle.std.specs.Prelude.{◌≡◌, ◌<◌, ◌≤◌, ◌^◌, ◌+◌, ◌++◌, ◌∷◌, ◌==◌, [], IfOk, IsOk, OnErr, OnOk, length};
+ghost use Rattle.lq_log.specs.Book.{InOrder, last_time, time_limit};
 
 use lq_events::LogEntry;
 use lq_records::Memory;
@@ -61,13 +60,25 @@ impl LogBook {
         self.entries.reserve(n)
     }
 
+    /// A book with the same entries, which shares their texts with this one. The only error is
+    /// running out of memory.
+    pub fn copy(&self, alloc: Global) -> Result<Self, Memory>
+        ensures { IfOk result (λ copy. copy.entries ≡ self.now.entries) }
+    {
+        let mut entries = Vec::with_capacity(alloc, self.entries.len())?;
+        for entry in &self.entries {
+            entries.push(copy_of(entry)?)?;
+        }
+        Ok(LogBook { entries })
+    }
+
     /// Adds an entry at the end, which is no earlier than the last one. The only error is running
     /// out of memory, also where there would be more than 2^40 entries; the entries are as before
     /// then. It doesn't come where the book has room.
     #[tactic(auto, using(crate::proofs::BookLemmas::longer_in_order, crate::proofs::BookLemmas::last_time_added))]
     pub fn add(&mut self, entry: LogEntry) -> Result<(), Memory>
         requires order { last_time self.old.entries ≤ entry.time }
-        requires below { entry.time < TIME_LIMIT }
+        requires below { entry.time < time_limit }
         ensures ok { OnOk result (self.new.entries ≡ self.old.entries ++ entry ∷ []) }
         ensures last { OnOk result (last_time self.new.entries ≡ entry.time) }
         ensures err { OnErr result (self.new.entries ≡ self.old.entries) }
@@ -88,10 +99,28 @@ impl LogBook {
         self.entries.len()
     }
 
+    /// The second of the last entry, counted from the beginning of 1970; 0 without an entry.
+    #[tactic(auto, using(crate::proofs::BookLemmas::last_time_is, crate::proofs::BookLemmas::no_last_time))]
+    pub fn last_time(&self) -> u64
+        ensures { result ≡ last_time self.now.entries }
+    {
+        match self.entries.last() {
+            Some(last) => last.time,
+            None => 0,
+        }
+    }
+
     /// Whether there is no entry.
     pub fn is_empty(&self) -> bool
         ensures { result ≡ (length self.now.entries == 0) }
     {
         self.entries.is_empty()
     }
+}
+
+/// The same entry, which shares its texts with this one.
+fn copy_of(entry: &LogEntry) -> Result<LogEntry, Memory>
+    ensures { IfOk result (λ copy. copy ≡ entry.now) }
+{
+    entry.clone()
 }

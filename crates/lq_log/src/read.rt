@@ -2,7 +2,7 @@ ghost use Rattle.std.specs.Prelude.{◌≡◌, ◌<◌, ◌≤◌, IfOk, IfSome,
 ghost use Rattle.std.specs.List.{list_any, starts_with};
 ghost use Rattle.std.specs.Option.{option_and_then};
 ghost use Rattle.lq_log.specs.Entries.{blank, entry_of, formed, other, parted, program_beginnings, said};
-ghost use Rattle.lq_log.specs.declared.book.TheConstants.{TIME_LIMIT};
+ghost use Rattle.lq_log.specs.Book.{time_limit};
 
 use crate::class;
 use crate::fill::with_fields;
@@ -19,8 +19,8 @@ use std::alloc::Global;
 pub fn read_line(alloc: Global, line: &str, before: u64) -> Result<Option<LogEntry>, Memory>
     ensures read { IfOk result (λ entry. entry ≡ entry_of line.now before) }
     ensures order { IfOk result (λ read. IfSome read (λ entry. before ≤ entry.time)) }
-    ensures below { before < TIME_LIMIT
-        → IfOk result (λ read. IfSome read (λ entry. entry.time < TIME_LIMIT)) }
+    ensures below { before < time_limit
+        → IfOk result (λ read. IfSome read (λ entry. entry.time < time_limit)) }
 {
     let Some((second, text)) = second_and_text(line) else {
         return Ok(None);

@@ -1,7 +1,7 @@
 ghost use Rattle.std.specs.Prelude.{◌≡◌, ◌<◌, ◌++◌, IfOk, OnOk, Some, codes, string_bytes};
 ghost use Rattle.std.specs.Fmt.{decimal};
 ghost use Rattle.lq_log.specs.Entries.{entry_of};
-ghost use Rattle.lq_log.specs.declared.book.TheConstants.{TIME_LIMIT};
+ghost use Rattle.lq_log.specs.Book.{time_limit};
 ghost use Rattle.lq_log.specs.Written.{alert_name, downtime_fields, downtime_name, form_text, host_downtime, next_field, object_text, service_downtime, stamped, state_word, type_word, written};
 
 use crate::read::said;
@@ -48,7 +48,7 @@ pub enum Form {
 /// `read_line` gives the same entry of the line. The only error is running out of memory.
 pub fn make_line(alloc: Global, time: u64, form: &Form) -> Result<LogEntry, Memory>
     ensures made { IfOk result (λ entry. entry ≡ written time form.now) }
-    ensures own_text { time < TIME_LIMIT
+    ensures own_text { time < time_limit
         → IfOk result (λ entry. entry_of entry.message 0 ≡ Some entry) }
 {
     let text = form_text(alloc, form)?;
