@@ -10,7 +10,7 @@ use Rattle.lq_records.specs.declared.object.ObjectKind.{ObjectKind}
 use Rattle.lq_events.specs.declared.log_entry.LogEntry.{LogEntry}
 use Rattle.lq_events.specs.declared.status.Downtime.{Downtime}
 use Rattle.lq_events.specs.declared.status.Status.{Status}
-use Rattle.lq_log.specs.declared.book.TheConstants.{TIME_LIMIT}
+use Rattle.lq_log.specs.Book.{time_limit}
 use Rattle.lq_live.specs.State.{LineNames, State, names_of, status_of}
 use Rattle.lq_live.specs.Results.{Attempt, check_attempt, differs, ends_acknowledgement, is_ok, most_code, status_after}
 use Rattle.lq_live.specs.Downtimes.{downtime_line, only_if}
@@ -161,11 +161,11 @@ effect_is DisableNotifications s = one_edit s.now (edit.NotifyAtAll false) (tt, 
 effect_is Unknown s = nothing s.now
 
 -- lines of one second are in order
-at_by : (second : ℕ) (line : Option LogEntry) (edits : List Edit) → second < TIME_LIMIT → LineAt second line → Timely second edits
+at_by : (second : ℕ) (line : Option LogEntry) (edits : List Edit) → second < time_limit → LineAt second line → Timely second edits
     → MayFollow second line × Timely (time_behind second line) edits
 at_by second None edits below at timely = (tt, timely)
 at_by second (Some entry) edits below at timely = rw at ((omega arith, below), timely)
 
-pub at_timely : (second : ℕ) (edits : List Edit) → second < TIME_LIMIT → EditsAt second edits → Timely second edits
+pub at_timely : (second : ℕ) (edits : List Edit) → second < time_limit → EditsAt second edits → Timely second edits
 at_timely second [] below all = tt
 at_timely second (edit ∷ edits) below all = at_by second (line_in edit) edits below all.0.0 (at_timely second edits below all.1)

@@ -9,9 +9,8 @@ use Rattle.lq_events.specs.declared.log_entry.LogEntry.{LogEntry}
 use Rattle.lq_events.specs.declared.status.Downtime.{Downtime}
 use Rattle.lq_events.specs.declared.status.Status.{Status}
 use Rattle.lq_events.specs.declared.update.Update.{Update}
-use Rattle.lq_log.specs.Book.{last_time}
+use Rattle.lq_log.specs.Book.{last_time, time_limit}
 use Rattle.lq_log.specs.Written.{written}
-use Rattle.lq_log.specs.declared.book.TheConstants.{TIME_LIMIT}
 use Rattle.lq_log.specs.declared.written.Form.TheVariants as form
 use Rattle.lq_live.specs.State.{State, changed_at, with_status}
 use Rattle.lq_live.specs.Downtimes.{after, begin, crosses, due, only_if}
@@ -202,7 +201,7 @@ of_played second least (edit ∷ edits) s all of = of_played second least edits 
 
 -- ---- through a step
 
-second_below : (now time : ℕ) → now < TIME_LIMIT → max now (min time 999_999_999_999) < TIME_LIMIT
+second_below : (now time : ℕ) → now < time_limit → max now (min time 999_999_999_999) < time_limit
 second_below now time below = grind (arith, below)
 
 of_ready : (s : State) (update : Update) → IsKept s → IsOf (second_after s update) 1 (length s.log + 1) (ready_by s update)
@@ -290,7 +289,7 @@ unfolding step_edits advance_edits
 step_timely s update kept =
     let second : ℕ = second_after s update in
     let later : s.now ≤ second = grind arith in
-    let below : second < TIME_LIMIT = second_below s.now update.time kept.second in
+    let below : second < time_limit = second_below s.now update.time kept.second in
     let events : List Event = due second s.downtimes in
     let changes : List Edit = effect_edits (command_of update.act) (at_second second s) in
     let is : IsEffect second changes = effect_is (command_of update.act) (at_second second s) in

@@ -10,5 +10,7 @@ pub mod EffectLemmas
 pub mod IdLemmas
 pub mod Begun
 pub mod Kept
+pub mod Copied
+pub mod Opened
 pub mod Front
 pub mod Apply

@@ -5,7 +5,7 @@ use Rattle.std.proofs.lemmas.Bool.Decides.{nat_tests}
 use Rattle.lq_records.specs.declared.base.Base.{Base}
 use Rattle.lq_events.specs.declared.log_entry.LogEntry.{LogEntry}
 use Rattle.lq_events.specs.declared.status.Downtime.{Downtime}
-use Rattle.lq_log.specs.declared.book.TheConstants.{TIME_LIMIT}
+use Rattle.lq_log.specs.Book.{time_limit}
 use Rattle.lq_live.specs.State.{LineNames, names_of}
 use Rattle.lq_live.specs.Downtimes.{after, crosses, depth, downtime_line, due, end_of, event_order, line_if, moments, only_if, put_in, sorted, start_of, word_of}
 use Rattle.lq_live.specs.Edits.{depth_line_of, line_in}
@@ -92,14 +92,14 @@ timely_later low high [] above timely = tt
 timely_later low high (edit ∷ edits) above timely =
     later_by low high (line_in edit) edits above timely.0 timely.1 (λ rest. timely_later low high edits above rest)
 
-moment_timely : (low : ℕ) (event : Event) (names : Option LineNames) (rest : List Edit) → low ≤ event.moment → event.moment < TIME_LIMIT
+moment_timely : (low : ℕ) (event : Event) (names : Option LineNames) (rest : List Edit) → low ≤ event.moment → event.moment < time_limit
     → Timely event.moment rest → Timely low (edit.Moment event (depth_line_of event.moment (word_of event) event.object names) ∷ rest)
 unfolding downtime_line
 moment_timely low event None rest above below timely = (tt, timely_later low event.moment rest above timely)
 moment_timely low event (Some names) rest above below timely = ((above, below), timely)
 
 -- the events' edits, and others behind them
-pub due_timely : (low high : ℕ) (base : Base) (events : List Event) (rest : List Edit) → Rising low high events → low ≤ high → high < TIME_LIMIT
+pub due_timely : (low high : ℕ) (base : Base) (events : List Event) (rest : List Edit) → Rising low high events → low ≤ high → high < time_limit
     → Timely high rest → Timely low (map (event_edit base) events ++ rest)
 due_timely low high base [] rest rising above below timely = timely_later low high rest above timely
 due_timely low high base (event ∷ events) rest rising above below timely =

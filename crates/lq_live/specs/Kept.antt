@@ -1,10 +1,10 @@
 -- The state that the code holds, and what it keeps.
 use Rattle.std.specs.Prelude.{◌≡◌, ℕ, ◌+◌, ◌-◌, min, if◌then◌else◌, ◌<◌, ◌≤◌, ◌^◌, true, false, Option, Some, None, List, [], ◌∷◌, length, vec_len, vec_capacity}
+use Rattle.std.specs.Arc.{arc_value}
 use Rattle.lq_events.specs.declared.log_entry.LogEntry.{LogEntry}
 use Rattle.lq_events.specs.declared.status.Downtime.{Downtime}
 use Rattle.lq_records.specs.Sound.{IsSound}
-use Rattle.lq_log.specs.declared.book.TheConstants.{TIME_LIMIT}
-use Rattle.lq_log.specs.Book.{last_time}
+use Rattle.lq_log.specs.Book.{last_time, time_limit}
 use Rattle.lq_live.specs.State.{State}
 use Rattle.lq_live.specs.Edits.{line_in}
 use Rattle.lq_live.specs.Ids.{HasRisingIds}
@@ -13,7 +13,7 @@ use Rattle.lq_live.specs.declared.edit.Edit.{Edit}
 
 abbrev pub state_of : LiveState → State
 state_of live = record {
-  base = live.base;
+  base = arc_value live.base;
   host_status = live.host_status.items;
   service_status = live.service_status.items;
   downtimes = live.downtimes.items;
@@ -73,7 +73,7 @@ pub record IsKept (s : State) : Type 0 where
   pub ahead : AllFrom (s.now + 1) s.downtimes
   pub order : AllOrdered s.downtimes
   pub begun : AllBegun s.now s.downtimes
-  pub second : s.now < TIME_LIMIT
+  pub second : s.now < time_limit
   pub downtime_ids : s.next_downtime ≤ length s.log + 1
   pub comment_ids : s.next_comment ≤ length s.log + 1
   pub ids : HasRisingIds s
@@ -86,7 +86,7 @@ pub record IsIndexed (live : LiveState) : Type 0 where
 
 -- what holds after so many updates: the base is sound, and no update is without its line
 pub record KeepsAll (live : LiveState) (updates : ℕ) : Type 0 where
-  pub sound : IsSound live.base
+  pub sound : IsSound (arc_value live.base)
   pub state : IsKept (state_of live)
   pub count : updates ≤ length live.log.entries
   pub index : IsIndexed live
@@ -96,7 +96,7 @@ pub record KeepsAll (live : LiveState) (updates : ℕ) : Type 0 where
 -- a line may follow a last one: it is no earlier, and can be written
 abbrev pub MayFollow : ℕ → Option LogEntry → Type 0
 MayFollow last None = Unit {0}
-MayFollow last (Some entry) = (last ≤ entry.time) × (entry.time < TIME_LIMIT)
+MayFollow last (Some entry) = (last ≤ entry.time) × (entry.time < time_limit)
 
 abbrev pub time_behind : ℕ → Option LogEntry → ℕ
 time_behind last None = last

@@ -1,4 +1,5 @@
 ghost use Rattle.std.specs.Prelude.{◌≡◌, ◌≤◌, ◌++◌, ◌&&◌, pos, true, if◌then◌else◌, IfOk, OnOk};
+ghost use Rattle.std.specs.Arc.{arc_value};
 ghost use Rattle.std.specs.List.{before_first, after_first, slice_get};
 ghost use Rattle.lq_live.specs.Downtimes.{only_if};
 ghost use Rattle.lq_live.specs.Effects.{alert_line};
@@ -87,9 +88,9 @@ impl<'a> StepContext<'a> {
     fn push_result(self, edits: &mut Vec<Edit>, check: PassiveCheck<'_>) -> Result<(), Memory>
         requires { check.code ≤ 3 }
         ensures { OnOk result (Adds edits.old.items edits.new.items (result_edits
-            self.entry.second self.entry.live.now.base check.entry.object
+            self.entry.second (arc_value self.entry.live.now.base) check.entry.object
             (pos check.entry.code) check.entry.output.now
-            (names_of self.entry.live.now.base check.entry.object)
+            (names_of (arc_value self.entry.live.now.base) check.entry.object)
             (status_of (state_at self.entry.second self.entry.live.now) check.entry.object))) }
     {
         let Some(name) = self.name_of(check.object) else {

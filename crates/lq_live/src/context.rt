@@ -1,4 +1,5 @@
 ghost use Rattle.std.specs.Prelude.{◌≡◌};
+ghost use Rattle.std.specs.Arc.{arc_value};
 ghost use Rattle.std.specs.Option.{option_copied, option_map};
 ghost use Rattle.lq_live.specs.Effects.{holds};
 ghost use Rattle.lq_live.specs.Kept.{state_of};
@@ -22,7 +23,7 @@ pub(crate) struct StepContext<'a> {
 impl<'a> StepContext<'a> {
     /// Whether the base holds an object.
     pub(crate) fn holds(self, object: Object) -> bool
-        ensures { result ≡ holds self.entry.live.now.base object }
+        ensures { result ≡ holds (arc_value self.entry.live.now.base) object }
     {
         holds(&self.live.base, object)
     }
@@ -30,7 +31,7 @@ impl<'a> StepContext<'a> {
     /// How a line names an object. None where the base doesn't hold it.
     pub(crate) fn name_of(self, object: Object) -> Option<ObjectName<'a>>
         ensures { option_map (λ name. line_names name.host.now name.service.now) result
-            ≡ names_of self.entry.live.now.base object }
+            ≡ names_of (arc_value self.entry.live.now.base) object }
     {
         names_of(&self.live.base, object)
     }

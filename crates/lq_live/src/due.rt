@@ -1,4 +1,5 @@
 ghost use Rattle.std.specs.Prelude.{◌≡◌, ◌++◌, ◌∷◌, [], map, OnOk, IfOk};
+ghost use Rattle.std.specs.Arc.{arc_value};
 ghost use Rattle.std.specs.Option.{option_map};
 ghost use Rattle.lq_live.specs.Downtimes.{downtime_line};
 ghost use Rattle.lq_live.specs.Edits.{depth_line, depth_line_of};
@@ -31,7 +32,8 @@ impl<'a> StepContext<'a> {
     pub(crate) fn push_due(self, edits: &mut Vec<Edit>) -> Result<(), Memory>
         requires { HasRisingIds (state_of self.live.now) }
         ensures { OnOk result (Adds edits.old.items edits.new.items (advance_edits
-            self.entry.live.now.base self.entry.second self.entry.live.now.downtimes.items)) }
+            (arc_value self.entry.live.now.base) self.entry.second
+            self.entry.live.now.downtimes.items)) }
     {
         let events = self.due()?;
         self.push_events(edits, &events)
@@ -39,7 +41,7 @@ impl<'a> StepContext<'a> {
 
     fn push_events(self, edits: &mut Vec<Edit>, events: &[Event]) -> Result<(), Memory>
         ensures { OnOk result (Adds edits.old.items edits.new.items
-            (map (event_edit self.entry.live.now.base) events.now)) }
+            (map (event_edit (arc_value self.entry.live.now.base)) events.now)) }
     {
         for event in events {
             self.push_event(edits, event)?;
@@ -49,7 +51,7 @@ impl<'a> StepContext<'a> {
 
     fn push_event(self, edits: &mut Vec<Edit>, event: &Event) -> Result<(), Memory>
         ensures { OnOk result (edits.new.items
-            ≡ edits.old.items ++ event_edit self.entry.live.now.base event.now ∷ []) }
+            ≡ edits.old.items ++ event_edit (arc_value self.entry.live.now.base) event.now ∷ []) }
     {
         let change = DepthChange {
             second: event.moment,
@@ -63,8 +65,9 @@ impl<'a> StepContext<'a> {
 
     /// The line of a change. None where the base doesn't hold its object.
     pub(crate) fn depth_line(self, change: DepthChange) -> Result<Option<DepthLine>, Memory>
-        ensures { IfOk result (λ line. line ≡ depth_line self.entry.live.now.base change.second
-            change.word.now change.object) }
+        ensures { IfOk result (λ line. line
+            ≡ depth_line (arc_value self.entry.live.now.base) change.second change.word.now
+            change.object) }
     {
         self.depth_line_of(change, self.name_of(change.object))
     }

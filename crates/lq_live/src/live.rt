@@ -19,6 +19,7 @@ use lq_log::LogBook;
 use lq_records::{Base, Host, HostId, Memory, Service, ServiceId, Text};
 use std::alloc::Global;
 use std::marker::Model;
+use std::sync::Arc;
 
 /// The state of the objects of a base, and how many updates led to it. Seconds are counted from
 /// the beginning of 1970.
@@ -50,6 +51,7 @@ impl Live {
     {
         let host_status = pending_hosts(alloc, base.hosts.as_slice())?;
         let service_status = pending_services(alloc, base.services.as_slice())?;
+        let base = Arc::new(alloc, base)?;
         Ok(Live {
             alloc,
             state: LiveState {
@@ -66,6 +68,20 @@ impl Live {
                 next_moment: u64::MAX,
             },
             count: 0,
+        })
+    }
+
+    /// The same state after as many updates. It goes its own way from then on: what either of the
+    /// two takes leaves the other as it is. The objects and all texts are shared, so that a copy
+    /// takes memory for the rest alone. The only error is out of memory.
+    #[tactic(auto, using(crate::proofs::Copied::copy_keeps))]
+    pub fn copy(&self) -> Result<Self, Memory>
+        ensures { IfOk result (λ copy. copy ≡ self.now) }
+    {
+        Ok(Live {
+            alloc: self.alloc,
+            state: self.state.copy(self.alloc)?,
+            count: self.count,
         })
     }
 

@@ -1,15 +1,19 @@
-ghost use Rattle.std.specs.Prelude.{◌≡◌, ◌++◌, ◌∷◌, ◌≤◌, [], filter, not, map, OnOk};
+ghost use Rattle.std.specs.Prelude.{◌≡◌, ◌++◌, ◌∷◌, ◌≤◌, [], filter, not, map, IfOk, OnOk};
 ghost use Rattle.lq_live.specs.Effects.{acknowledge_as};
+ghost use Rattle.lq_live.specs.Kept.{state_of};
 ghost use Rattle.lq_live.specs.State.{changed_at};
 
 use lq_events::{Comment, Downtime, Status};
 use lq_log::LogBook;
-use lq_records::Base;
+use lq_records::{Base, Memory};
+use std::alloc::Global;
+use std::sync::Arc;
 
 /// The state that is kept, and what finds things in it sooner.
 #[derive(Drop)]
 pub(crate) struct LiveState {
-    pub(crate) base: Base,
+    /// Shared with its copies.
+    pub(crate) base: Arc<Base, Global>,
     pub(crate) host_status: Vec<Status>,
     pub(crate) service_status: Vec<Status>,
     pub(crate) downtimes: Vec<Downtime>,
@@ -22,6 +26,76 @@ pub(crate) struct LiveState {
     pub(crate) notifications: bool,
     /// No downtime begins or ends before this second.
     pub(crate) next_moment: u64,
+}
+
+impl LiveState {
+    /// The same state in memory of its own, but for the objects and the texts, which are shared.
+    pub(crate) fn copy(&self, alloc: Global) -> Result<Self, Memory>
+        ensures state { IfOk result (λ copy. state_of copy ≡ state_of self.now) }
+        ensures moment { IfOk result (λ copy. copy.next_moment ≡ self.now.next_moment) }
+    {
+        Ok(LiveState {
+            base: Arc::try_clone(&self.base)?,
+            host_status: copy_of_statuses(alloc, &self.host_status)?,
+            service_status: copy_of_statuses(alloc, &self.service_status)?,
+            downtimes: copy_of_downtimes(alloc, &self.downtimes)?,
+            comments: copy_of_comments(alloc, &self.comments)?,
+            log: self.log.copy(alloc)?,
+            present: self.present,
+            next_downtime: self.next_downtime,
+            next_comment: self.next_comment,
+            notifications: self.notifications,
+            next_moment: self.next_moment,
+        })
+    }
+}
+
+fn copy_of_statuses(alloc: Global, statuses: &[Status]) -> Result<Vec<Status>, Memory>
+    ensures { IfOk result (λ copy. copy.items ≡ statuses.now) }
+{
+    let mut copy = Vec::with_capacity(alloc, statuses.len())?;
+    for status in statuses {
+        copy.push(copy_of_status(status)?)?;
+    }
+    Ok(copy)
+}
+
+fn copy_of_downtimes(alloc: Global, downtimes: &[Downtime]) -> Result<Vec<Downtime>, Memory>
+    ensures { IfOk result (λ copy. copy.items ≡ downtimes.now) }
+{
+    let mut copy = Vec::with_capacity(alloc, downtimes.len())?;
+    for downtime in downtimes {
+        copy.push(copy_of_downtime(downtime)?)?;
+    }
+    Ok(copy)
+}
+
+fn copy_of_comments(alloc: Global, comments: &[Comment]) -> Result<Vec<Comment>, Memory>
+    ensures { IfOk result (λ copy. copy.items ≡ comments.now) }
+{
+    let mut copy = Vec::with_capacity(alloc, comments.len())?;
+    for comment in comments {
+        copy.push(copy_of_comment(comment)?)?;
+    }
+    Ok(copy)
+}
+
+fn copy_of_status(status: &Status) -> Result<Status, Memory>
+    ensures { IfOk result (λ copy. copy ≡ status.now) }
+{
+    status.clone()
+}
+
+fn copy_of_downtime(downtime: &Downtime) -> Result<Downtime, Memory>
+    ensures { IfOk result (λ copy. copy ≡ downtime.now) }
+{
+    downtime.clone()
+}
+
+fn copy_of_comment(comment: &Comment) -> Result<Comment, Memory>
+    ensures { IfOk result (λ copy. copy ≡ comment.now) }
+{
+    comment.clone()
 }
 
 /// Replaces the status at a place, where there is one.

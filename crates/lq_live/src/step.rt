@@ -1,4 +1,5 @@
 ghost use Rattle.std.specs.Prelude.{◌≡◌, ◌++◌, OnOk, IfOk};
+ghost use Rattle.std.specs.Arc.{arc_value};
 ghost use Rattle.lq_log.specs.Written.{written};
 ghost use Rattle.lq_log.specs.declared.written.Form.TheVariants as form;
 ghost use Rattle.lq_live.specs.Edits.{play_edits};
@@ -60,7 +61,7 @@ impl<'a> StepContext<'a> {
         requires index { IsIndexed self.live.now }
         requires ids { HasRisingIds (state_of self.live.now) }
         ensures { OnOk result (Adds edits.old.items edits.new.items
-            (advance_edits self.entry.live.now.base self.entry.second
+            (advance_edits (arc_value self.entry.live.now.base) self.entry.second
             self.entry.live.now.downtimes.items)) }
     {
         if self.second < self.live.next_moment {
