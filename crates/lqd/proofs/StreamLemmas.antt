@@ -9,8 +9,8 @@ use Rattle.std.proofs.lemmas.Grind.{common_steps}
 use Rattle.lq_outside.specs.Sinks.{AppendsFront}
 use Rattle.lq_commands.specs.Names.{KnownNames, names_of}
 use Rattle.lq_live.specs.State.{State, Counted}
-use Rattle.lq_request.specs.Messages.{Piece, messages, whole_messages}
-use Rattle.lqd.specs.Reading.{ReadsAll, RepliesToFirst, RepliesToRead}
+use Rattle.lq_request.specs.Messages.{Piece, messages, messages_up_to, whole_messages}
+use Rattle.lqd.specs.Reading.{ReadsAll, ReadsNoFurther, RepliesToFirst, RepliesToRead}
 use Rattle.lqd.specs.Replies.{after_piece, is_last, is_over, opening, replies, replies_from, replies_to, reply_to_piece}
 use Rattle.lqd.specs.Session.{Standing, Fills, Serves, ServesLast, FindsNone, WantsMore, CutsShort, Breaks, Stops, behind, first_standing}
 use Rattle.lqd.specs.declared.session.ServeErr.{ServeErr}
@@ -264,6 +264,32 @@ full_read s old left out_old out now false held room at none = record {
   enough = inr (ap is_over (whole_taken s old left out_old out now held room at) ∙ over_by_count at.done (whole_messages (held ++ [])) room at.count none);
 }
 
+-- ---- no read after the end
+
+-- before a read all messages that are whole in what was read were served
+whole_done : (s : State) (old left out_old out : Option (List ℕ)) (now : Standing) (held : List ℕ) (room : ℕ)
+    (at : Stands s old left out_old out now false held room) → whole_messages held ≡ [] → whole_messages at.taken ≡ at.done
+whole_done s old left out_old out now held room at none =
+    whole_taken s old left out_old out now held room at ∙ ap (λ bytes. at.done ++ whole_messages bytes) (append_none held)
+    ∙ ap (λ later. at.done ++ later) none ∙ append_none at.done
+
+pub none_further : (left : Option (List ℕ)) → ReadsNoFurther left left
+unfolding is_over whole_messages messages_up_to
+none_further left = record { before = []; last = []; consumed = Consumes-nil left; goes_on = refl; few = omega arith }
+
+pub one_further : (s : State) (old left left_new out_old out out_new : Option (List ℕ)) (now next : Standing) (ended ended_new : Bool) (held mid held_new : List ℕ) (room : ℕ)
+    → Stands s old left out_old out now ended held room → WantsMore ended held mid now next out out_new → Fills ended_new left left_new mid held_new → 0 < room
+    → ReadsNoFurther old left_new
+one_further s old left left_new out_old out out_new now next ended ended_new held mid held_new room at wants fills some =
+    let more : Stands s old left out_old out now false held room = subst (λ end. Stands s old left out_old out now end held room) wants.end at in
+    record {
+      before = more.taken;
+      last = fills.bytes;
+      consumed = Consumes-trans old left left_new more.taken fills.bytes more.consumed fills.taken;
+      goes_on = ap is_over (whole_done s old left out_old out now held room more wants.none) ∙ not_over more.done room (room - 1) more.count (omega (arith, some)) more.kept;
+      few = fills.few;
+    }
+
 -- ---- where it breaks off
 
 -- the replies to the messages that were served
@@ -277,9 +303,7 @@ read_part : (s : State) (old left left_new out_old out : Option (List ℕ)) (now
     → Stands s old left out_old out now false held room → whole_messages held ≡ [] → Keeps left left_new → room ≡ less + 1
     → Stops error.Read s old left_new out_old out
 read_part s old left left_new out_old out now held room less at none kept is =
-    let whole : whole_messages at.taken ≡ at.done =
-    whole_taken s old left out_old out now held room at ∙ ap (λ bytes. at.done ++ whole_messages bytes) (append_none held)
-    ∙ ap (λ later. at.done ++ later) none ∙ append_none at.done in (
+    let whole : whole_messages at.taken ≡ at.done = whole_done s old left out_old out now held room at none in (
       record {
         taken = at.taken;
         consumed = Consumes-kept old left left_new at.taken at.consumed kept;

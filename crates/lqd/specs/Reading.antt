@@ -1,5 +1,5 @@
 -- How much of an input is read, and what is written by then.
-use Rattle.std.specs.Prelude.{◌≡◌, ℕ, ◌⊎◌, true, false, Option, List, take}
+use Rattle.std.specs.Prelude.{◌≡◌, ℕ, ◌≤◌, ◌⊎◌, true, false, Option, List, ◌++◌, length, take}
 use Rattle.std.specs.Io.KnownBytes.{Appends, Consumes, IsAtEnd}
 use Rattle.lq_outside.specs.Sinks.{AppendsFront}
 use Rattle.lq_live.specs.State.{State}
@@ -17,6 +17,15 @@ pub record ReadsAll (old left : Option (List ℕ)) : Type 0 where
   pub taken : List ℕ
   pub consumed : Consumes old left taken
   pub enough : IsAtEnd left ⊎ (is_over (whole_messages taken) ≡ true)
+
+-- What was read is a part within whose whole messages the connection doesn't end, and after it at
+-- most 65,536 bytes, no more than one read takes. Both may be empty.
+pub record ReadsNoFurther (old left : Option (List ℕ)) : Type 0 where
+  pub before : List ℕ
+  pub last : List ℕ
+  pub consumed : Consumes old left (before ++ last)
+  pub goes_on : is_over (whole_messages before) ≡ false
+  pub few : length last ≤ 65536
 
 -- the connection doesn't end within the messages that are whole in what was read
 pub record ReadsPart (old left : Option (List ℕ)) : Type 0 where

@@ -28,10 +28,12 @@ behind old piece = record { names = old.names; at = after_piece old.names old.at
 
 -- ---- reading
 
--- a read took bytes from the input and put them after those that are held; none at the end alone
+-- a read took at most 65,536 bytes from the input and put them after those that are held; none at
+-- the end alone
 pub record Fills (ended : Bool) (left_old left_new : Option (List ℕ))
     (old new : List ℕ) : Type 0 where
   pub bytes : List ℕ
+  pub few : length bytes ≤ 65536
   pub taken : Consumes left_old left_new bytes
   pub held : new ≡ old ++ bytes
   pub at_end : ended ≡ true → IsAtEnd left_new

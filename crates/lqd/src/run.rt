@@ -6,7 +6,7 @@ ghost use Rattle.lq_records.specs.Sound.{IsSound};
 ghost use Rattle.lq_live.specs.State.{opened};
 ghost use Rattle.lqd.specs.CommandLine.{asked_path};
 ghost use Rattle.lqd.specs.Faults.{IsStatus, status_of, text_of};
-ghost use Rattle.lqd.specs.Reading.{ReadsAll, ReadsPart, ReadsSome, RepliesToFirst, RepliesToPart, RepliesToRead};
+ghost use Rattle.lqd.specs.Reading.{ReadsAll, ReadsNoFurther, ReadsPart, ReadsSome, RepliesToFirst, RepliesToPart, RepliesToRead};
 ghost use Rattle.lqd.specs.Replies.{replies};
 ghost use Rattle.lqd.specs.Run.{IsRefused, LoadsNoBase, MustRefuse, OnBase, OnFile, Reports};
 
@@ -59,6 +59,7 @@ pub fn run<R, F: Files, S: Source, K: Sink>(
         → (input.new ≡ input.old) × (output.new ≡ output.old) }
     ensures no_file { result ≡ 1 → files.new ≡ files.old }
     ensures read { result ≡ 0 → ReadsAll (S.left input.old) (S.left input.new) }
+    ensures no_further { result ≡ 0 → ReadsNoFurther (S.left input.old) (S.left input.new) }
     ensures written { result ≡ 0
         → OnFile (asked_path (map string_bytes words.now)) (F.held_at files.old)
         (λ _ file. OnBase file (λ base. IfSome (S.left input.old) (λ all.

@@ -7,7 +7,7 @@ ghost use Rattle.lq_commands.specs.Names.{names_of};
 ghost use Rattle.lq_live.specs.State.{opened};
 ghost use Rattle.lq_request.specs.Messages.{Command, Query, message_limit};
 ghost use Rattle.lq_request.specs.Request.{asked};
-ghost use Rattle.lqd.specs.Reading.{ReadsAll};
+ghost use Rattle.lqd.specs.Reading.{ReadsAll, ReadsNoFurther};
 ghost use Rattle.lqd.specs.Replies.{keeps, opening, replies, reply_to, update_of};
 ghost use Rattle.lqd.specs.Session.{Breaks, BreaksReply, Does, Fills, Stops, behind, first_standing};
 
@@ -65,6 +65,7 @@ pub fn serve<S: Source, K: Sink>(
     ensures written { OnOk result (IfSome (S.left input.old) (λ all.
         Appends (K.held output.old) (K.held output.new) (replies (opened base) all))) }
     ensures read { OnOk result (ReadsAll (S.left input.old) (S.left input.new)) }
+    ensures no_further { OnOk result (ReadsNoFurther (S.left input.old) (S.left input.new)) }
     ensures stopped { IfErr result (λ error. Stops error (opened base)
         (S.left input.old) (S.left input.new) (K.held output.old) (K.held output.new)) }
     ensures input_later { S.faults input.old ≤ S.faults input.new }
@@ -90,10 +91,11 @@ fn serve_all<S: Source, K: Sink>(
 ) -> Result<(), ServeErr>
     requires opened { session.old ≡ first_standing session.old.at.state }
     requires none { cut.old ≡ [] }
-    requires some { 0 < length piece.old }
+    requires size { length piece.old ≡ 65536 }
     ensures written { OnOk result (IfSome (S.left input.old) (λ all.
         Appends (K.held output.old) (K.held output.new) (replies session.old.at.state all))) }
     ensures read { OnOk result (ReadsAll (S.left input.old) (S.left input.new)) }
+    ensures no_further { OnOk result (ReadsNoFurther (S.left input.old) (S.left input.new)) }
     ensures stopped { IfErr result (λ error. Stops error session.old.at.state
         (S.left input.old) (S.left input.new) (K.held output.old) (K.held output.new)) }
     ensures input_later { S.faults input.old ≤ S.faults input.new }
@@ -125,7 +127,7 @@ fn start(alloc: Global, base: Base) -> Result<(Session, Cut, Vec<u8>), Memory>
     requires { IsSound base }
     ensures session { IfOk result (λ parts. parts.0 ≡ first_standing (opened base)) }
     ensures cut { IfOk result (λ parts. parts.1 ≡ []) }
-    ensures piece { IfOk result (λ parts. 0 < vec_len parts.2) }
+    ensures piece { IfOk result (λ parts. vec_len parts.2 ≡ 65536) }
 {
     let session = Session::open(alloc, base)?;
     let cut = Cut::new(alloc)?;
@@ -135,7 +137,7 @@ fn start(alloc: Global, base: Base) -> Result<(Session, Cut, Vec<u8>), Memory>
 
 /// Room for what one read gives.
 fn new_piece(alloc: Global) -> Result<Vec<u8>, Memory>
-    ensures { IfOk result (λ piece. 0 < vec_len piece) }
+    ensures { IfOk result (λ piece. vec_len piece ≡ 65536) }
 {
     vec![in alloc; 0; PIECE]
 }
@@ -143,7 +145,7 @@ fn new_piece(alloc: Global) -> Result<Vec<u8>, Memory>
 /// Reads once after what is held, and says whether the input has ended.
 fn fill<S: Source>(input: &mut S, cut: &mut Cut, piece: &mut [u8]) -> Result<bool, ServeErr>
     requires room { length cut.old ≤ message_limit }
-    requires some { 0 < length piece.old }
+    requires size { length piece.old ≡ 65536 }
     ensures ok { IfOk result
         (λ ended. Fills ended (S.left input.old) (S.left input.new) cut.old cut.new) }
     ensures err { OnErr result (Keeps (S.left input.old) (S.left input.new)) }

@@ -1,6 +1,6 @@
 use Rattle.std.proofs.Common.{◌≡◌, [], length, arith, ap}
 use Rattle.lqd.specs.Session.{Serves, WantsMore}
-use Rattle.lqd.proofs.StreamLemmas.{stands_first, stands_next, stands_read, last_replied, none_replied, full_replied, last_read, none_read, full_read, next_stopped, read_stopped}
+use Rattle.lqd.proofs.StreamLemmas.{stands_first, stands_next, stands_read, last_replied, none_replied, full_replied, last_read, none_read, full_read, none_further, one_further, next_stopped, read_stopped}
 use Rattle.lqd.proofs.session.serve_all.Goals as goal
 
 pub messages-init : goal.messages-init
@@ -11,7 +11,8 @@ messages-init g c =
       output_later = omega arith;
       stands = stands_first _ _ _ _ _ c.requires.opened none;
       small = omega (arith, ap length none);
-      some = c.requires.some;
+      no_further = none_further _;
+      size = c.requires.size;
     }
 
 pub messages-preserved-in-Ok-On : goal.messages-preserved-in-Ok-On
@@ -23,7 +24,8 @@ messages-preserved-in-Ok-On g c =
       output_later = omega (arith, c.messages.invariant.output_later, c.in-Ok-On.ensures.later);
       stands = stands_next _ _ _ _ _ _ _ _ _ _ _ _ _ c.messages.invariant.stands serves (omega (arith, c.messages-test.true));
       small = omega (arith, serves.cut.fewer, c.messages.invariant.small);
-      some = c.messages.invariant.some;
+      no_further = c.messages.invariant.no_further;
+      size = c.messages.invariant.size;
     }
 
 pub messages-preserved : goal.messages-preserved
@@ -35,7 +37,8 @@ messages-preserved g c =
       output_later = omega (arith, c.messages.invariant.output_later, c.in-Ok-More.ensures.later);
       stands = stands_read _ _ _ _ _ _ _ _ _ _ _ _ _ _ _ c.messages.invariant.stands wants c.in-Ok.ensures.ok;
       small = c.in-Ok.ensures.ok.small;
-      some = omega (arith, c.fill.auto.piece, c.messages.invariant.some);
+      no_further = one_further _ _ _ _ _ _ _ _ _ _ _ _ _ _ _ c.messages.invariant.stands wants c.in-Ok.ensures.ok c.messages-test.true;
+      size = omega (arith, c.fill.auto.piece, c.messages.invariant.size);
     }
 
 pub returns-in-Err-fill-clause-stopped : goal.returns-in-Err-fill-clause-stopped

@@ -1,4 +1,5 @@
-use Rattle.std.proofs.Common.{◌+◌, ◌-◌, ◌*◌, ◌<◌, ◌≤◌, length, if◌then◌else◌}
+use Rattle.std.proofs.Common.{◌+◌, ◌-◌, ◌*◌, ◌≡◌, ◌≤◌, length, if◌then◌else◌}
+use Rattle.lqd.specs.Reading.{ReadsNoFurther}
 use Rattle.lqd.proofs.StreamLemmas.{Stands}
 use Rattle.lqd.proofs.session.serve_all.Given as goal
 
@@ -8,7 +9,8 @@ invariant-messages g l = record {
   output_later : g.K.Sink.faults l.initial.output ≤ g.K.Sink.faults l.output;
   stands : Stands l.initial.session.at.state (g.S.Source.left l.initial.input) (g.S.Source.left l.input) (g.K.Sink.held l.initial.output) (g.K.Sink.held l.output) l.session l.ended l.cut l.left;
   small : length l.cut ≤ 65537;
-  some : 0 < length l.piece;
+  no_further : ReadsNoFurther (g.S.Source.left l.initial.input) (g.S.Source.left l.input);
+  size : length l.piece ≡ 65536;
 }
 
 abbrev pub decreases-messages : goal.decreases-messages
