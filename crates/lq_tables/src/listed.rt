@@ -1,4 +1,4 @@
-ghost use Rattle.std.specs.Prelude.{◌≡◌, IfOk, map};
+ghost use Rattle.std.specs.Prelude.{◌≡◌, ◌<◌, ◌^◌, IfOk, map};
 ghost use Rattle.std.specs.List.{range_with_len};
 ghost use Rattle.lq_tables.specs.Listed.{row_at};
 
@@ -7,7 +7,7 @@ use lq_records::{
     CommandId, ContactGroupId, ContactId, HostGroupId, HostId, Memory, PeriodId, ServiceGroupId,
     ServiceId,
 };
-use std::alloc::{AllocError, Global};
+use std::alloc::Global;
 
 /// The objects that a base lists, by their kind.
 #[derive(Clone, Copy)]
@@ -23,12 +23,14 @@ pub(crate) enum Listed {
 }
 
 impl Listed {
-    /// The rows of so many objects, in the order of the base.
+    /// The rows of so many objects, fewer than 2 ^ 32, in the order of the base.
     pub(crate) fn rows(self, alloc: Global, count: usize) -> Result<Vec<Row>, Memory>
+        requires few { count < 2 ^ 32 }
         ensures { IfOk result (λ rows. rows.items ≡ map (row_at self) (range_with_len 0 count)) }
     {
-        let count = narrow(count)?;
-        (0..count).map(|place| self.row_at(place)).collect(alloc)
+        (0..count as u32)
+            .map(|place| self.row_at(place))
+            .collect(alloc)
     }
 
     /// The row of the object at a place.
@@ -45,15 +47,5 @@ impl Listed {
             Listed::Commands => Row::Command(CommandId(place)),
             Listed::Periods => Row::Period(PeriodId(place)),
         }
-    }
-}
-
-/// A number of objects, or a place among them. No memory holds 2 ^ 32 objects.
-pub(crate) fn narrow(number: usize) -> Result<u32, Memory>
-    ensures { IfOk result (λ narrow. narrow ≡ number) }
-{
-    match u32::try_from(number) {
-        Ok(narrow) => Ok(narrow),
-        Err(_) => Err(AllocError),
     }
 }

@@ -1,11 +1,11 @@
-ghost use Rattle.std.specs.Prelude.{◌≡◌, [], ◌∷◌, ◌++◌, IfOk, OnOk, length, map, filter};
+ghost use Rattle.std.specs.Prelude.{◌≡◌, ◌<◌, ◌^◌, [], ◌∷◌, ◌++◌, IfOk, OnOk, length, map, filter};
 ghost use Rattle.std.specs.List.{flat_map, range_with_len};
 ghost use Rattle.lq_tables.specs.Own.{HasIdsRising, IsOwn};
 ghost use Rattle.lq_tables.specs.Rows.{group_service_rows, host_group_rows, numbered, places_of, rows_of, runs_on, service_group_rows, service_rows};
 ghost use Rattle.lq_tables.specs.Schema.{schema};
 ghost use Rattle.lq_tables.specs.declared.row.Row.TheVariants as row;
 
-use crate::listed::{Listed, narrow};
+use crate::listed::Listed;
 use crate::row::Row;
 use crate::schema::entry_count;
 use lq_events::{Comment, Downtime};
@@ -89,13 +89,14 @@ fn column_rows(alloc: Global) -> Result<Vec<Row>, Memory>
 }
 
 fn hosts_by_group(alloc: Global, groups: &[HostGroup]) -> Result<Vec<Row>, Memory>
+    requires few { length groups.now < 2 ^ 32 }
     ensures { IfOk result (λ rows. rows.items ≡ flat_map host_group_rows (numbered groups.now)) }
 {
     let mut rows = Vec::new(alloc);
     for (place, group) in groups.iter().enumerate() {
         push_hosts(
             &mut rows,
-            HostGroupId(narrow(place)?),
+            HostGroupId(place as u32),
             group.members.as_slice(),
         )?;
     }
@@ -112,13 +113,14 @@ fn push_hosts(rows: &mut Vec<Row>, group: HostGroupId, members: &[HostId]) -> Re
 }
 
 fn services_by_group(alloc: Global, groups: &[ServiceGroup]) -> Result<Vec<Row>, Memory>
+    requires few { length groups.now < 2 ^ 32 }
     ensures { IfOk result (λ rows. rows.items ≡ flat_map service_group_rows (numbered groups.now)) }
 {
     let mut rows = Vec::new(alloc);
     for (place, group) in groups.iter().enumerate() {
         push_services(
             &mut rows,
-            ServiceGroupId(narrow(place)?),
+            ServiceGroupId(place as u32),
             group.members.as_slice(),
         )?;
     }
@@ -144,6 +146,8 @@ fn services_by_host_group(
     services: &[Service],
     groups: &[HostGroup],
 ) -> Result<Vec<Row>, Memory>
+    requires few { length services.now < 2 ^ 32 }
+    requires few_groups { length groups.now < 2 ^ 32 }
     ensures { IfOk result (λ rows.
         rows.items ≡ flat_map (group_service_rows services.now) (numbered groups.now)) }
 {
@@ -153,7 +157,7 @@ fn services_by_host_group(
             alloc,
             &mut rows,
             services,
-            HostGroupId(narrow(place)?),
+            HostGroupId(place as u32),
             group.members.as_slice(),
         )?;
     }
@@ -167,6 +171,7 @@ fn push_services_of(
     group: HostGroupId,
     members: &[HostId],
 ) -> Result<(), Memory>
+    requires few { length services.now < 2 ^ 32 }
     ensures { OnOk result (rows.new.items
         ≡ rows.old.items ++ flat_map (service_rows services.now group) members.now) }
 {
@@ -184,10 +189,10 @@ fn services_of(
     group: HostGroupId,
     host: HostId,
 ) -> Result<Vec<Row>, Memory>
+    requires few { length services.now < 2 ^ 32 }
     ensures { IfOk result (λ rows. rows.items ≡ service_rows services.now group host) }
 {
-    let count = narrow(services.len())?;
-    (0..count)
+    (0..services.len() as u32)
         .filter(|place| runs_on(services, host, *place))
         .map(|place| Row::GroupService(group, ServiceId(place)))
         .collect(alloc)

@@ -11,6 +11,5 @@ loop-place-preserved c =
     numbered_next service_group_rows c.loop-place.rows.items c.push_services.new.rows.items (flat_map service_group_rows (numbered c.args.groups.now)) c.args.groups.now c.loop-place.place c.index-groups-place.result
     (slice_get-get_or c.args.groups.now c.loop-place.place c.index-groups-place.result c.loop-place-test.true ∙ ap Some (sym c.index-groups-place.is))
     (c.in_ok-push_services.ensures
-    ∙ ap (λ place. c.loop-place.rows.items ++ map (row.ServiceOf (record { 0 = place })) c.as_slice.result.now) c.in_ok-narrow.ensures
     ∙ ap (λ members. c.loop-place.rows.items ++ map (row.ServiceOf (record { 0 = c.loop-place.place })) members) c.as_slice.ensures)
     c.loop-place.invariant
