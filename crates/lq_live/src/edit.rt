@@ -129,7 +129,8 @@ fn play_moment(live: &mut LiveState, event: &Event, line: Option<DepthLine>)
     write(&mut live.log, line, before, later);
 }
 
-/// Adds a downtime, for which there is room.
+/// Adds a downtime, for which there is room. One that isn't active leaves the number of active ones
+/// as it is, so that these aren't counted.
 fn add_downtime(live: &mut LiveState, downtime: Downtime, line: Option<DepthLine>)
     requires room { HasRoom live.old 1 }
     requires timely { MayFollow (last_time live.old.log.entries)
@@ -140,9 +141,13 @@ fn add_downtime(live: &mut LiveState, downtime: Downtime, line: Option<DepthLine
     ensures room { (n : ℕ) → HasRoom live.old (n + 1) → HasRoom live.new n }
 {
     live.next_moment = live.next_moment.min(next_moment(&downtime));
+    live.next_downtime += 1;
+    if !downtime.active {
+        live.downtimes.push_reserved(downtime);
+        return;
+    }
     let before = depth_in(&line, &live.downtimes);
     live.downtimes.push_reserved(downtime);
-    live.next_downtime += 1;
     let later = depth_in(&line, &live.downtimes);
     write(&mut live.log, line, before, later);
 }
