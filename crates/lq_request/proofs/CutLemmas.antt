@@ -2,7 +2,7 @@
 use Rattle.std.proofs.Common.{◌≡◌, ℕ, ◌+◌, ◌-◌, ◌<◌, ◌≤◌, Bool, true, false, List, [], ◌++◌, length, take, drop, refl, sym, ap, ◌∙◌, subst, arith, length-take}
 use Rattle.std.proofs.lemmas.List.{drop-append-le, drop-drop, drop-take, take-append-le}
 use Rattle.std.proofs.lemmas.Grind.{common_steps}
-use Rattle.lq_request.specs.Messages.{message_limit, Message, message_of, behind, first_piece, IsFirst, IsNext, Piece, More, rest_behind, whole}
+use Rattle.lq_request.specs.Messages.{message_limit, Message, message_of, after_message, first_piece, IsFirst, IsNext, Piece, More, rest_after, whole}
 use Rattle.lq_request.specs.Search.{IsKnown}
 use Rattle.lq_request.specs.Extent.{IsExtent}
 use Rattle.lq_request.specs.Cutting.{Shows, IsWithin, found_piece, taken_by}
@@ -15,22 +15,22 @@ use Rattle.lq_request.proofs.ListLemmas.{part_of_front, take_front, take_whole}
 use Rattle.lq_request.proofs.MessageLemmas.{message_kind}
 use Rattle.lq_request.proofs.PieceLemmas.{window_message, piece_ended, piece_long, piece_more, piece_last, first_ended, first_long, first_last}
 
--- ---- what is behind a message
+-- ---- what is after a message
 
 whole_not_more : (k : MessageKind) (text : List ℕ) → whole k text ≡ More → ⊥
 whole_not_more message.Query text is = cc
 whole_not_more message.Command text is = cc
 whole_not_more message.Nothing text is = cc
 
-pub behind_message : (k : MessageKind) (text bytes : List ℕ) → (k ≡ message.Nothing → ⊥) → rest_behind (whole k text) bytes ≡ behind bytes (window_message bytes)
+pub behind_message : (k : MessageKind) (text bytes : List ℕ) → (k ≡ message.Nothing → ⊥) → rest_after (whole k text) bytes ≡ after_message bytes (window_message bytes)
 behind_message message.Query text bytes some = refl
 behind_message message.Command text bytes some = refl
 behind_message message.Nothing text bytes some = absurd (some refl)
 
-pub behind_ended : (bytes : List ℕ) (first : Message) → first.ended ≡ true → behind bytes first ≡ drop first.size bytes
+pub behind_ended : (bytes : List ℕ) (first : Message) → first.ended ≡ true → after_message bytes first ≡ drop first.size bytes
 behind_ended bytes first is = rw is refl
 
-pub behind_last : (k : MessageKind) (text bytes : List ℕ) → (window_message bytes).ended ≡ false → rest_behind (whole k text) bytes ≡ []
+pub behind_last : (k : MessageKind) (text bytes : List ℕ) → (window_message bytes).ended ≡ false → rest_after (whole k text) bytes ≡ []
 behind_last message.Query text bytes is = rw is refl
 behind_last message.Command text bytes is = rw is refl
 behind_last message.Nothing text bytes is = refl
@@ -62,7 +62,7 @@ module _ (ended : Bool) (bytes : List ℕ) (extent : Extent) (is : IsExtent (tak
   window_length = (omega (arith, length-take message_limit bytes), omega (arith, length-take message_limit bytes))
 
   text_is : take (extent.end - extent.start) (drop extent.start bytes) ≡ (window_message bytes).text
-  text_is = sym (is.text ∙ part_of_front bytes extent.start extent.end message_limit is.order (omega (arith, is.behind, is.within, window_length)))
+  text_is = sym (is.text ∙ part_of_front bytes extent.start extent.end message_limit is.order (omega (arith, is.next, is.within, window_length)))
 
   -- the message that the places show
   abbrev message_piece : Piece
@@ -86,7 +86,7 @@ module _ (ended : Bool) (bytes : List ℕ) (extent : Extent) (is : IsExtent (tak
       record {
         next = next_message (piece_ended ended bytes (window_message bytes) has) (first_ended ended bytes has (omega (arith, is.size, is.within, window_length)));
         rest = behind_message extent.kind _ bytes some ∙ behind_ended bytes (window_message bytes) has ∙ ap (λ n. drop n bytes) is.size;
-        within = (is.order, is.behind, omega (arith, is.within, window_length));
+        within = (is.order, is.next, omega (arith, is.within, window_length));
       }
 
   not_ended : extent.next ≤ extent.end → (window_message bytes).ended ≡ false
@@ -120,12 +120,12 @@ module _ (ended : Bool) (bytes : List ℕ) (extent : Extent) (is : IsExtent (tak
       record {
         next = next_message piece (last_of message_piece high short closed piece);
         rest = behind_last extent.kind _ bytes (not_ended high) ∙ sym (drop_all bytes);
-        within = (is.order, omega (arith, is.behind, is.within, window_length), omega arith);
+        within = (is.order, omega (arith, is.next, is.within, window_length), omega arith);
       }
 
 -- ---- the buffer
 
--- what is held behind n bytes
+-- what is held after n bytes
 pub held_behind : (buffer : List ℕ) (start end n : ℕ) → n ≤ length (take (end - start) (drop start buffer))
     → take (end - (start + n)) (drop (start + n) buffer) ≡ drop n (take (end - start) (drop start buffer))
 held_behind buffer start end n low =
@@ -152,7 +152,7 @@ taken_within bytes found.More within = omega arith
 pub written : (n : ℕ) (new old : List ℕ) → length new ≡ n → take n (new ++ drop (length new) old) ≡ new
 written n new old size = take-append-le n new (drop (length new) old) (omega (arith, size)) ∙ take_whole n new (omega (arith, size))
 
--- what is held with a piece behind it, which may have moved before
+-- what is held with a piece after it, which may have moved before
 pub fed : (buffer moved filled piece : List ℕ) (start from held : ℕ) → take held (drop from moved) ≡ take held (drop start buffer)
     → take (from + held + length piece) filled ≡ take (from + held) moved ++ piece → from + held ≤ length moved
     → take (from + held + length piece - from) (drop from filled) ≡ take held (drop start buffer) ++ piece
@@ -178,11 +178,11 @@ module _ (ended : Bool) (buffer : List ℕ) (start end : ℕ) (held now : List �
   next_of place shows = subst (λ bytes. IsNext ended bytes (found_piece bytes place)) (inside ∙ view) shows.next
 
   pub behind_of : (place : Found) (taken : ℕ) → taken ≡ taken_by place → Shows ended held place
-      → take (end - (start + taken)) (drop (start + taken) buffer) ≡ rest_behind (found_piece now place) now
+      → take (end - (start + taken)) (drop (start + taken) buffer) ≡ rest_after (found_piece now place) now
   behind_of place taken is shows =
       let small : taken_by place ≤ length (take (end - start) (drop start buffer)) = subst (λ bytes. taken_by place ≤ length bytes) inside (taken_within held place shows.within) in
       ap (λ n. take (end - (start + n)) (drop (start + n) buffer)) is ∙ held_behind buffer start end (taken_by place) small
-      ∙ ap (drop (taken_by place)) view ∙ sym (subst (λ bytes. rest_behind (found_piece bytes place) bytes ≡ drop (taken_by place) bytes) (inside ∙ view) shows.rest)
+      ∙ ap (drop (taken_by place)) view ∙ sym (subst (λ bytes. rest_after (found_piece bytes place) bytes ≡ drop (taken_by place) bytes) (inside ∙ view) shows.rest)
 
   -- what is left, and how far it was looked over
   pub left_within : (place : Found) (taken : ℕ) → taken ≡ taken_by place → IsWithin held place → start ≤ end → start + taken ≤ end

@@ -47,6 +47,6 @@ command_extent bytes start end next size front within at command text low =
       size = omega (arith, size_line, at.more, at.text);
       ended = feed_shorter line ∙ ap (λ n. nat_lt n (length line)) size_own ∙ ap (nat_lt (end - start)) size_line ∙ same_order start end next at.text at.order;
       order = omega (arith, inside, at.text);
-      behind = at.order;
+      next = at.order;
       within = at.within;
     })

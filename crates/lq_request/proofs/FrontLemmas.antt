@@ -36,7 +36,7 @@ take_parts bytes i j low =
     let front : take i (take j bytes) ≡ take i bytes = grind (arith, common_steps) in
     sym (take-append-drop i (take j bytes)) ∙ ap (λ rest. take i (take j bytes) ++ rest) back ∙ ap (λ first. first ++ take (j - i) (drop i bytes)) front
 
--- a line of the kind goes on with the lines behind it
+-- a line of the kind goes on with the lines after it
 pub front_next : (kind : LineKind) (bytes : List ℕ) (at end next : ℕ) → IsLineAt bytes at end next → is_line_of kind (take (next - at) (drop at bytes)) ≡ true
     → take at bytes ++ front_lines kind (drop at bytes) ≡ take next bytes ++ front_lines kind (drop next bytes)
 front_next kind bytes at end next line pass =

@@ -34,7 +34,7 @@ front_more n bytes more = ⊎_elim
     ∙ ap (λ front. front ++ take (n - length bytes) more) (sym (take_whole n bytes high)))
     (cases_lt n (length bytes))
 
--- a front, and the item behind it
+-- a front, and the item after it
 pub front_next : {A : Type 0} (before items : List A) (i : ℕ) (item : A) → slice_get items i ≡ Some item → before ≡ take i items
     → before ++ item ∷ [] ≡ take (i + 1) items
 front_next before items i item is front =

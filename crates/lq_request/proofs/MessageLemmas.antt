@@ -48,7 +48,7 @@ front_of kind lines = concat (take_while (is_line_of kind) lines)
 longer : (n k : ℕ) (bytes : List ℕ) → length bytes ≤ n → HasFeed (drop k bytes) → n ≡ 0 → ⊥
 longer n k bytes small has none = let within : feed_place (drop k bytes) < length (drop k bytes) = has.within in omega (arith, length-drop k bytes)
 
--- where a line feed stands behind the lines of the kind, they stay, whatever follows
+-- where a line feed stands after the lines of the kind, they stay, whatever follows
 pub front_stable : (kind : LineKind) (n : ℕ) (bytes more : List ℕ) → length bytes ≤ n → HasFeed (drop (length (front_lines kind bytes)) bytes)
     → front_lines kind (bytes ++ more) ≡ front_lines kind bytes
 front_stable kind zero bytes more small has = absurd (longer zero _ bytes small has refl)
@@ -72,7 +72,7 @@ front_stable kind (suc n) bytes more small has =
     long ∙ fails_first kind line (whole_lines (rest ++ more)) fail ∙ sym (short ∙ fails_first kind line (whole_lines rest) fail) in
     ⊎_elim passing failing (cases_Bool (is_line_of kind line))
 
--- ---- the empty line behind a message
+-- ---- the empty line after a message
 
 abbrev one_of : List (List ℕ) → List ℕ
 one_of lines = concat (take 1 (take_while (is_line_of kind.Empty) lines))
@@ -136,7 +136,7 @@ pub message_query : (before : ℕ) (line : List ℕ) (lines : List (List ℕ)) (
     → message_at before (line ∷ lines) bytes ≡ query_from before (front_lines kind.Text (drop before bytes)) bytes
 message_query before line lines bytes is = rw is refl
 
--- the end of a query is behind a line feed
+-- the end of a query is after a line feed
 pub query_feed : (before : ℕ) (text bytes : List ℕ) → (query_from before text bytes).ended ≡ true → HasFeed (drop (length text) (drop before bytes))
 query_feed before text bytes ended = subst HasFeed (sym (drop-drop (length text) before bytes)) (empty_line_has_feed _ (ltb-true _ _ ended))
 

@@ -29,7 +29,7 @@ lines_append kind lines more first second rest =
     ap (front_lines kind) (append_assoc lines more rest) ∙ first (more ++ rest) ∙ ap (λ later. lines ++ later) (second rest)
     ∙ sym (append_assoc lines more (front_lines kind rest))
 
--- lines at the front, and those behind them
+-- lines at the front, and those after them
 pub front_behind : (kind : LineKind) (bytes : List ℕ) (n : ℕ) → AreLines kind (take n bytes) → front_lines kind bytes ≡ take n bytes ++ front_lines kind (drop n bytes)
 front_behind kind bytes n lines = ap (front_lines kind) (sym (take-append-drop n bytes)) ∙ lines (drop n bytes)
 
@@ -84,7 +84,7 @@ module _ (bytes : List ℕ) (at end next : ℕ) (is : IsLineAt bytes at end next
   pub line_lines : (kind : LineKind) → end < next → is_line_of kind line ≡ true → AreLines kind line
   line_lines kind fed pass rest = ap (λ lines. concat (take_while (is_line_of kind) lines)) (single_line fed rest) ∙ passes_first kind _ _ pass
 
-  -- behind one without it no line feed stands
+  -- after one without it no line feed stands
   pub none_fed : end ≡ next → (k : ℕ) → k < length (drop at bytes) → slice_index (drop at bytes) k ≡ 10 → ⊥
   none_fed same =
       let rest : List ℕ = drop at bytes in
@@ -144,7 +144,7 @@ pub last_has_text : (lines : LineKind) (bytes : List ℕ) (at end next : ℕ) �
 last_has_text kind.Empty bytes at end next is same pass empty = omega (arith, empty_fed bytes at end next is pass, same, is.more)
 last_has_text kind.Text bytes at end next is same pass empty = cc
 
--- all empty lines, behind those that are known
+-- all empty lines, after those that are known
 pub empty_lines_on : (bytes : List ℕ) (n m : ℕ) → n + m ≤ length bytes → AreLines kind.Empty (take n bytes) → AreLines kind.Empty (take m (drop n bytes)) → AreLines kind.Empty (take (n + m) bytes)
 empty_lines_on bytes n m within lines more =
     let size : n + m - n ≡ m = omega arith in
@@ -230,7 +230,7 @@ other_kind line is = rw is refl
 text_is_some : (line : List ℕ) → is_line_of kind.Text line ≡ true → is_line_of kind.Empty line ≡ false
 text_is_some line is = ⊎_elim (λ (empty : is_line_of kind.Empty line ≡ true). absurd (let other : false ≡ true = ap not (sym empty) ∙ is in cc)) (λ some. some) (cases_Bool (is_line_of kind.Empty line))
 
--- the line behind all empty ones has text
+-- the line after all empty ones has text
 text_behind : (bytes : List ℕ) (at end next : ℕ) → IsLineAt bytes at end next → AreLines kind.Empty (take at bytes) → front_lines kind.Empty bytes ≡ take at bytes
     → is_line_of kind.Text (take (next - at) (drop at bytes)) ≡ true
 text_behind bytes at end next is lines front =
@@ -281,7 +281,7 @@ searched_message text next bytes is some =
     let before : length (front_lines kind.Empty bytes) ≡ text = ap length empty ∙ omega (arith, length-take text bytes, is.order, is.within) in
     ap (λ n. message_at n (whole_lines (drop n bytes)) bytes) before ∙ ap (λ b. message_at text (whole_lines b) bytes) (sym parts) ∙ known.1 text bytes
 
--- the text of a query goes on behind the lines that were looked over
+-- the text of a query goes on after the lines that were looked over
 pub searched_text : (text next n : ℕ) (bytes : List ℕ) → IsSearched text next bytes → front_lines kind.Text (drop next bytes) ≡ take n (drop next bytes)
     → front_lines kind.Text (drop text bytes) ≡ take (next + n - text) (drop text bytes)
 searched_text text next n bytes is front =
@@ -315,7 +315,7 @@ last_query bytes start end next front lines is same other =
       size = omega (arith, place, ap length closing);
       ended = ap (λ l. nat_lt 0 (length l)) closing ∙ grind (arith, same);
       order = is.text;
-      behind = is.order;
+      next = is.order;
       within = is.within;
     })
 
@@ -337,7 +337,7 @@ searched_query text next all closing bytes is some within front last low =
       size = omega (arith, place, size);
       ended = ap (nat_lt 0) size ∙ grind arith;
       order = omega (arith, is.order);
-      behind = omega arith;
+      next = omega arith;
       within = omega (arith, low, length-drop (next + all) bytes, within);
     })
 
@@ -346,7 +346,7 @@ searched_query text next all closing bytes is some within front last low =
 index_behind : (n k : ℕ) (bytes : List ℕ) → slice_index (drop n bytes) k ≡ slice_index bytes (n + k)
 index_behind n k bytes = grind (arith, common_steps)
 
--- where none stands behind what was looked over, no message has ended
+-- where none stands after what was looked over, no message has ended
 pub unfed_message : (text next : ℕ) (bytes : List ℕ) → IsSearched text next bytes → ((k : ℕ) → next ≤ k → k < length bytes → slice_index bytes k ≡ 10 → ⊥) → (message_of bytes).ended ≡ false
 unfolding message_of
 unfed_message text next bytes is none =

@@ -53,7 +53,7 @@ back_utf8 bytes i text within small =
     subst IsUtf8 (sym (take_whole (length bytes - (i + 1)) (drop (i + 1) bytes) (omega (arith, length-drop (i + 1) bytes))))
     (IsUtf8-drop bytes (i + 1) text (IsCharBoundary-after_ascii bytes i text within small))
 
--- the words of a text that are borrowed, and those behind the first, are texts
+-- the words of a text that are borrowed, and those after the first, are texts
 pub borrowed_utf8 : (words : List (Bor (List ℕ))) (line : List ℕ) → map (λ word. word.now) words ≡ words_of line → IsUtf8 line
     → AllByRecursion IsUtf8 (map (λ word. word.now) words)
 borrowed_utf8 words line is text = subst (AllByRecursion IsUtf8) (sym is) (words_utf8 line text)

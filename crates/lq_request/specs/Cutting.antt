@@ -4,15 +4,15 @@ use Rattle.lq_request.specs.declared.cut.Cutting.{Cutting}
 use Rattle.lq_request.specs.declared.cut.Cutting.TheVariants as cutting
 use Rattle.lq_request.specs.declared.cut.Found.{Found}
 use Rattle.lq_request.specs.declared.cut.Found.TheVariants as found
-use Rattle.lq_request.specs.Messages.{message_limit, Piece, Query, Command, TooLong, Empty, More, whole, rest_behind, IsNext}
+use Rattle.lq_request.specs.Messages.{message_limit, Piece, Query, Command, TooLong, Empty, More, whole, rest_after, IsNext}
 
 -- the piece, without where it lies in memory
-abbrev pub shown : Cutting → Piece
-shown (cutting.Query text) = Query text.now
-shown (cutting.Command text) = Command text.now
-shown (cutting.TooLong bytes) = TooLong bytes.now
-shown cutting.Empty = Empty
-shown cutting.More = More
+abbrev pub lent_piece : Cutting → Piece
+lent_piece (cutting.Query text) = Query text.now
+lent_piece (cutting.Command text) = Command text.now
+lent_piece (cutting.TooLong bytes) = TooLong bytes.now
+lent_piece cutting.Empty = Empty
+lent_piece cutting.More = More
 
 -- ---- by places
 
@@ -38,5 +38,5 @@ IsWithin bytes found.More = length bytes ≤ message_limit
 -- the places show what stands first in the bytes
 pub record Shows (ended : Bool) (bytes : List ℕ) (found : Found) : Type 0 where
   pub next : IsNext ended bytes (found_piece bytes found)
-  pub rest : rest_behind (found_piece bytes found) bytes ≡ drop (taken_by found) bytes
+  pub rest : rest_after (found_piece bytes found) bytes ≡ drop (taken_by found) bytes
   pub within : IsWithin bytes found

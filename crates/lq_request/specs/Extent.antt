@@ -10,7 +10,7 @@ pub record IsExtentOf (first : Message) (bytes : List ℕ) (extent : Extent) : T
   pub size : first.size ≡ extent.next
   pub ended : first.ended ≡ nat_lt extent.end extent.next
   pub order : extent.start ≤ extent.end
-  pub behind : extent.end ≤ extent.next
+  pub next : extent.end ≤ extent.next
   pub within : extent.next ≤ length bytes
 
 -- an extent is that of the first message of the bytes

@@ -119,33 +119,33 @@ unfoldable pub first_piece : Bool → List ℕ → Piece
 first_piece ended bytes = piece_of ended bytes (message_of (take message_limit bytes))
 
 -- the bytes after a message; one without its end takes all
-abbrev pub behind : List ℕ → Message → List ℕ
-behind bytes first = if first.ended then drop first.size bytes else []
+abbrev pub after_message : List ℕ → Message → List ℕ
+after_message bytes first = if first.ended then drop first.size bytes else []
 
 -- the bytes after the first piece; where more are wanted, all of them
-abbrev pub rest_behind : Piece → List ℕ → List ℕ
-rest_behind (Query text) bytes = behind bytes (message_of (take message_limit bytes))
-rest_behind (Command text) bytes = behind bytes (message_of (take message_limit bytes))
-rest_behind (TooLong front) bytes = drop message_limit bytes
-rest_behind Empty bytes = []
-rest_behind More bytes = bytes
+abbrev pub rest_after : Piece → List ℕ → List ℕ
+rest_after (Query text) bytes = after_message bytes (message_of (take message_limit bytes))
+rest_after (Command text) bytes = after_message bytes (message_of (take message_limit bytes))
+rest_after (TooLong front) bytes = drop message_limit bytes
+rest_after Empty bytes = []
+rest_after More bytes = bytes
 
 -- ---- all messages, in order
 
 -- a piece and the messages after it; after one that is too long there is none
-abbrev pub before : Piece → List Piece → List Piece
-before (Query text) later = Query text ∷ later
-before (Command text) later = Command text ∷ later
-before (TooLong front) later = TooLong front ∷ []
-before Empty later = []
-before More later = []
+abbrev pub with_later : Piece → List Piece → List Piece
+with_later (Query text) later = Query text ∷ later
+with_later (Command text) later = Command text ∷ later
+with_later (TooLong front) later = TooLong front ∷ []
+with_later Empty later = []
+with_later More later = []
 
 -- the first messages of the bytes, at most so many
 unfoldable pub messages_up_to : Bool → ℕ → List ℕ → List Piece
 messages_up_to ended zero bytes = []
 messages_up_to ended (suc most) bytes =
-    before (first_piece ended bytes)
-    (messages_up_to ended most (rest_behind (first_piece ended bytes) bytes))
+    with_later (first_piece ended bytes)
+    (messages_up_to ended most (rest_after (first_piece ended bytes) bytes))
 
 -- the messages of a whole input: each takes a byte at least
 unfoldable pub messages : List ℕ → List Piece

@@ -1,7 +1,7 @@
 ghost use Rattle.std.specs.Prelude.{◌≡◌, ◌≢◌, ℕ, ◌+◌, ◌-◌, ◌<◌, ◌≤◌, List, [], ◌++◌, length, take, drop, false, vec_len, IfOk};
-ghost use Rattle.lq_request.specs.Cutting.{shown, Shows, taken_by};
+ghost use Rattle.lq_request.specs.Cutting.{lent_piece, Shows, taken_by};
 ghost use Rattle.lq_request.specs.Search.{IsKnown, IsSearched};
-ghost use Rattle.lq_request.specs.Messages.{IsInOrder, IsNext, message_limit, rest_behind, whole};
+ghost use Rattle.lq_request.specs.Messages.{IsInOrder, IsNext, message_limit, rest_after, whole};
 ghost use Rattle.lq_request.specs.declared.cut.TheConstants.{CAPACITY};
 
 use crate::extent::{Extent, MessageKind, Searched};
@@ -104,11 +104,11 @@ impl Cut {
     /// Cuts off what stands first; `ended` says that no more bytes come. `More` leaves all as it
     /// was.
     pub fn next_message(&mut self, ended: bool) -> Cutting<'_>
-        ensures next { IsNext ended self.old (shown result) }
-        ensures order { IsInOrder ended self.old (shown result)
-            (rest_behind (shown result) self.old) }
+        ensures next { IsNext ended self.old (lent_piece result) }
+        ensures order { IsInOrder ended self.old (lent_piece result)
+            (rest_after (lent_piece result) self.old) }
         ensures* rest { sem 𝓛 (follows_so the_row the_row self.entry.ghost_name none (λ _ _. ⊤)
-            (λ held. held ≡ rest_behind (shown result) self.old)) }
+            (λ held. held ≡ rest_after (lent_piece result) self.old)) }
     {
         let mut searched = self.searched;
         let found = first_found(&mut searched, self.held(), ended);
@@ -128,7 +128,7 @@ impl Cut {
 
 /// A whole message of a kind.
 fn message(kind: MessageKind, text: &[u8]) -> Cutting<'_>
-    ensures { shown result ≡ whole kind text.now }
+    ensures { lent_piece result ≡ whole kind text.now }
 {
     match kind {
         MessageKind::Query => Cutting::Query(text),
@@ -158,7 +158,7 @@ impl Found {
     }
 }
 
-/// What stands first in the bytes that are held, and how far what is behind it was looked over.
+/// What stands first in the bytes that are held, and how far what stands after it was looked over.
 /// They are searched only where a line feed came, or where it is the last time.
 fn first_found(searched: &mut Searched, held: &[u8], ended: bool) -> Found
     requires searched { IsKnown searched.old.text searched.old.next searched.old.seen held.now }
@@ -207,7 +207,7 @@ fn find(searched: &mut Searched, held: &[u8], ended: bool) -> Found
     }
 }
 
-/// Makes room for `more` bytes behind those that are held, which begin at the place `start`: they
+/// Makes room for `more` bytes after those that are held, which begin at the place `start`: they
 /// move to the front where it is wanting. Returns the place where they begin then.
 fn make_room(buffer: &mut [u8], start: usize, held: usize, more: usize) -> usize
     requires within { start + held ≤ length buffer.old }

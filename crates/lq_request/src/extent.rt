@@ -45,7 +45,7 @@ enum LineKind {
 }
 
 /// How far bytes were looked over: they are empty lines up to `text`, and from there on whole lines
-/// of a query up to `next`; behind those no line feed stands up to `seen`.
+/// of a query up to `next`; after those no line feed stands up to `seen`.
 #[derive(Clone, Copy)]
 pub struct Searched {
     pub text: usize,
@@ -67,7 +67,7 @@ impl Searched {
         }
     }
 
-    /// Whether a line feed stands behind what was seen. Where none does, no message has ended.
+    /// Whether a line feed stands after what was seen. Where none does, no message has ended.
     pub fn sees_feed(&mut self, bytes: &[u8]) -> bool
         requires { IsKnown self.old.text self.old.next self.old.seen bytes.now }
         ensures some { OnTrue result (Contains (drop self.old.seen bytes.now) 10) }

@@ -6,7 +6,7 @@ use Rattle.std.proofs.KnownBytes.{Appends-nil}
 use Rattle.lq_request.specs.Messages.{message_limit, Message, Piece, Query, Command, TooLong, Empty, More, messages, whole_messages, first_piece, message_of, message_at, whole, command_from, query_from, IsCutOff, IsLast}
 use Rattle.lq_request.specs.Request.{asked}
 use Rattle.lqd.specs.Replies.{keeps, reply_to}
-use Rattle.lqd.specs.Session.{Standing, ComesFirst, Serves, ServesLast, FindsNone, Breaks, BreaksReply, behind}
+use Rattle.lqd.specs.Session.{Standing, ComesFirst, Serves, ServesLast, FindsNone, Breaks, BreaksReply, standing_after}
 use Rattle.lqd.specs.declared.session.ServeErr.{ServeErr}
 use Rattle.lqd.specs.declared.session.ServeErr.TheVariants as error
 
@@ -46,7 +46,7 @@ query_broken error.Write ended held left text old out_old out cut breaks = recor
 query_broken error.Memory ended held left text old out_old out cut breaks = breaks
 
 pub command_served : (ended : Bool) (held left text : List ℕ) (old new : Standing) (out : Option (List ℕ)) → IsCutOff ended held (Command text) left
-    → new ≡ behind old (Command text) → Serves ended held left old new out out
+    → new ≡ standing_after old (Command text) → Serves ended held left old new out out
 command_served ended held left text old new out cut state = record {
   piece = Command text;
   cut = cut;

@@ -12,7 +12,7 @@ use Rattle.lq_live.specs.State.{State, Counted}
 use Rattle.lq_request.specs.Messages.{Piece, messages, messages_up_to, whole_messages}
 use Rattle.lqd.specs.Reading.{ReadsAll, ReadsNoFurther, RepliesToFirst, RepliesToRead}
 use Rattle.lqd.specs.Replies.{after_piece, is_last, is_over, opening, replies, replies_from, replies_to, reply_to_piece}
-use Rattle.lqd.specs.Session.{Standing, Fills, Serves, ServesLast, FindsNone, WantsMore, CutsShort, Breaks, Stops, behind, first_standing}
+use Rattle.lqd.specs.Session.{Standing, Fills, Serves, ServesLast, FindsNone, WantsMore, CutsShort, Breaks, Stops, standing_after, first_standing}
 use Rattle.lqd.specs.declared.session.ServeErr.{ServeErr}
 use Rattle.lqd.specs.declared.session.ServeErr.TheVariants as error
 
@@ -91,7 +91,7 @@ one_more_kept (first ∷ done) piece before kept = rest_kept (is_last first) (li
 
 stands_behind : (s : State) (old left out_old out out_new : Option (List ℕ)) (now next : Standing) (ended : Bool) (held held_new : List ℕ) (room less : ℕ)
     → Stands s old left out_old out now ended held room → (serves : Serves ended held held_new now next out out_new) → room ≡ less + 1
-    → Stands s old left out_old out_new (behind now serves.piece) ended held_new less
+    → Stands s old left out_old out_new (standing_after now serves.piece) ended held_new less
 stands_behind s old left out_old out out_new now next ended held held_new room less at serves is = record {
   taken = at.taken;
   done = at.done ++ serves.piece ∷ [];
@@ -329,7 +329,7 @@ one_tail : (names : KnownNames) (at : Counted) (piece : Piece) (later : List Pie
 one_tail names at piece later zero less is = absurd (omega (arith, is))
 one_tail names at piece later (suc room) less is = (if is_last piece then [] else replies_from names (after_piece names at piece) (take room later), refl)
 
--- a front of the reply to a message, behind the replies to those before it
+-- a front of the reply to a message, after the replies to those before it
 front_written : (s : State) (old left out_old out out_new : Option (List ℕ)) (now : Standing) (ended : Bool) (held : List ℕ) (room less : ℕ)
     (at : Stands s old left out_old out now ended held room) (piece : Piece) (later : List Piece)
     → AppendsFront out out_new (reply_to_piece piece now.at.state) → room ≡ less + 1 → AppendsFront out_old out_new (replies_to s (at.done ++ piece ∷ later))

@@ -23,8 +23,8 @@ abbrev pub first_standing : State → Standing
 first_standing s = record { names = names_of s.base; at = opening s }
 
 -- after a message
-abbrev pub behind : Standing → Piece → Standing
-behind old piece = record { names = old.names; at = after_piece old.names old.at piece }
+abbrev pub standing_after : Standing → Piece → Standing
+standing_after old piece = record { names = old.names; at = after_piece old.names old.at piece }
 
 -- ---- reading
 
@@ -55,7 +55,7 @@ pub record Serves (ended : Bool) (held left : List ℕ) (old new : Standing)
   pub piece : Piece
   pub cut : IsCutOff ended held piece left
   pub kept : is_last piece ≡ false
-  pub state : new ≡ behind old piece
+  pub state : new ≡ standing_after old piece
   pub written : Appends out_old out (reply_to_piece piece old.at.state)
 
 -- the last message of the connection was served

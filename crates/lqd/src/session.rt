@@ -9,7 +9,7 @@ ghost use Rattle.lq_request.specs.Messages.{Command, Query, message_limit};
 ghost use Rattle.lq_request.specs.Request.{asked};
 ghost use Rattle.lqd.specs.Reading.{ReadsAll, ReadsNoFurther};
 ghost use Rattle.lqd.specs.Replies.{keeps, opening, replies, reply_to, update_of};
-ghost use Rattle.lqd.specs.Session.{Breaks, BreaksReply, Does, Fills, Stops, behind, first_standing};
+ghost use Rattle.lqd.specs.Session.{Breaks, BreaksReply, Does, Fills, Stops, standing_after, first_standing};
 
 use lq_commands::{CommandErr, ObjectNames, Order, read_command};
 use lq_events::Update;
@@ -282,7 +282,7 @@ impl Session {
 
     /// Takes a command's step of the state. One without a time is skipped.
     fn command(&mut self, text: &[u8]) -> Result<(), Memory>
-        ensures { OnOk result (self.new ≡ behind self.old (Command text.now)) }
+        ensures { OnOk result (self.new ≡ standing_after self.old (Command text.now)) }
     {
         match read_command(self.alloc, &self.names, text) {
             Ok(order) => self.live.apply(&update_of(self.live.count(), order)),

@@ -726,7 +726,7 @@ fn a_write_fault_leaves_the_replies_before_it(rt: HostRuntime) -> Result<(), Fai
     )
 }
 
-/// The piece a number of times, and the query behind it.
+/// The piece a number of times, and the query after it.
 fn behind_many(alloc: Global, piece: &[u8], count: usize) -> Result<Vec<u8>, AllocError> {
     let mut bytes = piece.repeat(alloc, count)?;
     bytes.extend_from_slice(QUERY)?;

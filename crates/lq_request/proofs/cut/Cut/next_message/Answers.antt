@@ -1,8 +1,8 @@
 use Rattle.std.proofs.Common.{◌≡◌, refl, sym, ap, ◌∙◌, subst, arith}
 use Rattle.lq_request.proofs.CutLemmas.{left_known, left_within, next_of, behind_of, part_of, front_of}
 use Rattle.lq_request.proofs.OrderLemmas.{in_order}
-use Rattle.lq_request.specs.Cutting.{found_piece, shown, taken_by}
-use Rattle.lq_request.specs.Messages.{IsNext, More, TooLong, rest_behind, whole}
+use Rattle.lq_request.specs.Cutting.{found_piece, lent_piece, taken_by}
+use Rattle.lq_request.specs.Messages.{IsNext, More, TooLong, rest_after, whole}
 use Rattle.lq_request.specs.declared.cut.Found.TheVariants as found
 use Rattle.lq_request.proofs.cut.Cut.next_message.Goals as goal
 
@@ -25,15 +25,15 @@ pub returns-in-Message : goal.returns-in-Message
 returns-in-Message c =
     let within = c.in-Message.ensures.shows.within in
     let part = part_of c.args.ended c.self.inside.buffer.items c.self.inside.start c.self.inside.end _ _ c.held.ensures c.self.view_is _ c.in-Message.extent.start c.in-Message.extent.end c.deref.ensures.value within.0 (omega (arith, within)) in
-    let piece : shown c.message.result ≡ found_piece c.args.self.now (found.Message c.in-Message.extent) = c.message.ensures ∙ ap (whole c.in-Message.extent.kind) part in
+    let piece : lent_piece c.message.result ≡ found_piece c.args.self.now (found.Message c.in-Message.extent) = c.message.ensures ∙ ap (whole c.in-Message.extent.kind) part in
     let next = subst (IsNext c.args.ended c.args.self.now) (sym piece) (next_of c.args.ended c.self.inside.buffer.items c.self.inside.start c.self.inside.end _ _ c.held.ensures c.self.view_is _ c.in-Message.ensures.shows) in (
       (
         refl,
         (λ _. tt),
         behind_of c.args.ended c.self.inside.buffer.items c.self.inside.start c.self.inside.end _ _ c.held.ensures c.self.view_is _ _ (c.taken.ensures ∙ ap taken_by c.in-Message.is) c.in-Message.ensures.shows
-            ∙ ap (λ p. rest_behind p c.args.self.now) (sym piece),
+            ∙ ap (λ p. rest_after p c.args.self.now) (sym piece),
       ),
-      record { next = next; order = in_order c.args.ended c.args.self.now (shown c.message.result) next; rest = tt },
+      record { next = next; order = in_order c.args.ended c.args.self.now (lent_piece c.message.result) next; rest = tt },
     )
 
 pub invariant_of-self-in-Message : goal.invariant_of-self-in-Message
