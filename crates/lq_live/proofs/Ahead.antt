@@ -1,9 +1,7 @@
 -- What is to come of the downtimes lies ahead, through each change.
-use Rattle.std.proofs.Common.{◌≡◌, ℕ, ◌≤◌, ◌==◌, min, not, Bool, true, false, List, [], ◌∷◌, ◌++◌, map, filter, refl, arith, true≢false}
+use Rattle.std.proofs.Common.{◌≡◌, ℕ, ◌≤◌, min, Bool, true, false, List, [], ◌∷◌, ◌++◌, filter, refl, arith, true≢false}
 use Rattle.lq_events.specs.declared.status.Downtime.{Downtime}
-use Rattle.lq_live.specs.Downtimes.{after, begin}
 use Rattle.lq_live.specs.Kept.{AllFrom, IsFrom, first_of, next_of}
-use Rattle.lq_live.specs.declared.event.Event.{Event}
 
 pub lower_from : (m n : ℕ) (ds : List Downtime) → m ≤ n → AllFrom n ds → AllFrom m ds
 lower_from m n [] low all = tt
@@ -19,23 +17,6 @@ kept_from m test d ds false is from rest = rw is rest
 pub filter_from : (m : ℕ) (test : Downtime → Bool) (ds : List Downtime) → AllFrom m ds → AllFrom m (filter test ds)
 filter_from m test [] all = tt
 filter_from m test (d ∷ ds) all = kept_from m test d ds (test d) refl all.0 (filter_from m test ds all.1)
-
--- ---- one that begins
-
-begin_one : (m id : ℕ) (d : Downtime) (test : Bool) → (d.id == id) ≡ test → IsFrom m d → IsFrom m (begin id d)
-begin_one m id d true is from = rw is (record { end = from.end; start = λ active. absurd (true≢false active) })
-begin_one m id d false is from = rw is from
-
-pub begin_from : (m id : ℕ) (ds : List Downtime) → AllFrom m ds → AllFrom m (map (begin id) ds)
-begin_from m id [] all = tt
-begin_from m id (d ∷ ds) all = (begin_one m id d (d.id == id) refl all.0, begin_from m id ds all.1)
-
-after_by : (m : ℕ) (event : Event) (ds : List Downtime) (starts : Bool) → event.starts ≡ starts → AllFrom m ds → AllFrom m (after event ds)
-after_by m event ds true is all = rw is (begin_from m event.id ds all)
-after_by m event ds false is all = rw is (filter_from m (λ downtime. not (downtime.id == event.id)) ds all)
-
-pub after_from : (m : ℕ) (event : Event) (ds : List Downtime) → AllFrom m ds → AllFrom m (after event ds)
-after_from m event ds all = after_by m event ds event.starts refl all
 
 -- ---- one more
 

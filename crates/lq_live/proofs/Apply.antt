@@ -1,9 +1,5 @@
 -- The edits of a step, as they are made and played.
-use Rattle.std.proofs.Common.{◌≡◌, ◌∙◌, ℕ, ◌≤◌, Bool, true, false, Option, Some, None, List, [], ◌∷◌, ◌++◌, refl, arith, append-nil}
-use Rattle.std.specs.Option.{option_map}
-use Rattle.lq_live.specs.Downtimes.{crosses, only_if}
-use Rattle.lq_live.specs.declared.edit.DepthLine.{DepthLine}
-use Rattle.lq_live.proofs.Rising.{timely_later}
+use Rattle.std.proofs.Common.{◌≡◌, ◌∙◌, ℕ, ◌≤◌, List, [], ◌∷◌, ◌++◌, refl, arith}
 use Rattle.lq_events.specs.declared.log_entry.LogEntry.{LogEntry}
 use Rattle.lq_events.specs.declared.status.Status.{Status}
 use Rattle.lq_records.specs.declared.object.Object.{Object}
@@ -12,9 +8,9 @@ use Rattle.lq_events.specs.declared.update.Update.{Update}
 use Rattle.lq_log.specs.Book.{last_time}
 use Rattle.lq_live.specs.State.{State, with_status}
 use Rattle.lq_live.specs.Effects.{acknowledge_as}
-use Rattle.lq_live.specs.Edits.{make_edit, play_edits, written_lines}
+use Rattle.lq_live.specs.Edits.{make_edit, play_edits}
 use Rattle.lq_live.specs.StepEdits.{step_edits}
-use Rattle.lq_live.specs.Kept.{HasRoom, IsKept, MayFollow, Timely, time_behind}
+use Rattle.lq_live.specs.Kept.{HasRoom, IsKept, Timely}
 use Rattle.lq_live.specs.Step.{step}
 use Rattle.lq_live.specs.declared.live_state.LiveState.{LiveState}
 use Rattle.lq_live.specs.declared.edit.Edit.{Edit}
@@ -28,25 +24,12 @@ last_added [] entry = refl
 last_added (first ∷ []) entry = refl
 last_added (first ∷ next ∷ log) entry = last_added (next ∷ log) entry
 
-written_last : (log : List LogEntry) (line : Option DepthLine) (before later : ℕ) (rest : List Edit)
-    → MayFollow (last_time log) (option_map (λ line. line.entry) line) → Timely (time_behind (last_time log) (option_map (λ line. line.entry) line)) rest
-    → Timely (last_time (log ++ written_lines line before later)) rest
-written_last log None before later rest may timely = rw (append-nil log) timely
-written_last log (Some line) before later rest may timely = by (crosses before later) refl
-  where
-    by : (test : Bool) → crosses before later ≡ test → Timely (last_time (log ++ only_if (crosses before later) line.entry)) rest
-    by true is = rw is (rw (last_added log line.entry) timely)
-    by false is = rw is (rw (append-nil log) (timely_later (last_time log) line.entry.time rest may.0 timely))
-
 timely_status : (change : Status → Status) (object : Object) (rest : List Edit) (s : State) → Timely (last_time s.log) rest → Timely (last_time (with_status change object s).log) rest
 timely_status change (object.Host id) rest s timely = timely
 timely_status change (object.Service id) rest s timely = timely
 
 pub timely_next : (edit : Edit) (rest : List Edit) (s : State) → Timely (last_time s.log) (edit ∷ rest) → Timely (last_time (make_edit edit s).log) rest
 timely_next (edit.Line entry) rest s timely = rw (last_added s.log entry) timely.1
-timely_next (edit.Moment event line) rest s timely = written_last s.log line _ _ rest timely.0 timely.1
-timely_next (edit.AddDowntime downtime line) rest s timely = written_last s.log line _ _ rest timely.0 timely.1
-timely_next (edit.RemoveDowntime kind id line) rest s timely = written_last s.log line _ _ rest timely.0 timely.1
 timely_next (edit.SetStatus object status) rest s timely = timely_status (λ _. status) object rest s timely.1
 timely_next (edit.SetAcknowledgement object kind) rest s timely = timely_status (acknowledge_as kind) object rest s timely.1
 timely_next (edit.SetNotifications object on) rest s timely = timely_status (λ status. record status { notifications_enabled = on }) object rest s timely.1

@@ -9,9 +9,8 @@ use Rattle.std.proofs.lemmas.Cmp.{nat_cmp_total, on_total, then_total}
 use Rattle.lq_records.specs.declared.object.Object.{Object}
 use Rattle.lq_events.specs.declared.status.Downtime.{Downtime}
 use Rattle.lq_live.specs.State.{State}
-use Rattle.lq_live.specs.Downtimes.{IsDue, MayPrecede, due, end_of, event_order, moments, only_if, sorted, start_of}
+use Rattle.lq_live.specs.Downtimes.{Event, IsDue, MayPrecede, due, end_of, event_order, moments, only_if, sorted, start_of}
 use Rattle.lq_live.specs.Ids.{HasRisingIds, IdsRise, downtime_id}
-use Rattle.lq_live.specs.declared.event.Event.{Event}
 use Rattle.lq_live.proofs.Sorting.{Ascending, ascending_sorted, is_sorted, same_sorted}
 
 -- ---- the order

@@ -1,9 +1,8 @@
 -- A command's effect writes its lines at the present second, adds what lies ahead, and adds one thing at most.
-use Rattle.std.proofs.Common.{◌≡◌, ℕ, ℤ, pos, ◌+◌, ◌<◌, ◌≤◌, ◌&&◌, nat_le, codes, Bool, true, false, Option, Some, None, List, [], ◌∷◌, ◌++◌, refl, arith, if◌then◌else◌}
-use Rattle.std.specs.Option.{option_map}
+use Rattle.std.proofs.Common.{◌≡◌, ℕ, ℤ, pos, ◌+◌, ◌<◌, ◌≤◌, ◌&&◌, nat_le, Bool, true, false, Option, Some, None, List, [], ◌∷◌, ◌++◌, filter, not, refl, arith, if◌then◌else◌}
 use Rattle.std.proofs.lemmas.Bool.{false≢true}
 use Rattle.std.proofs.lemmas.Bool.Decides.{nat_tests}
-use Rattle.std.specs.List.{find}
+use Rattle.std.specs.List.{before_first, find}
 use Rattle.lq_records.specs.declared.base.Base.{Base}
 use Rattle.lq_records.specs.declared.object.Object.{Object}
 use Rattle.lq_records.specs.declared.object.ObjectKind.{ObjectKind}
@@ -11,12 +10,16 @@ use Rattle.lq_events.specs.declared.log_entry.LogEntry.{LogEntry}
 use Rattle.lq_events.specs.declared.status.Downtime.{Downtime}
 use Rattle.lq_events.specs.declared.status.Status.{Status}
 use Rattle.lq_log.specs.Book.{time_limit}
-use Rattle.lq_live.specs.State.{LineNames, State, names_of, status_of}
-use Rattle.lq_live.specs.Results.{Attempt, check_attempt, differs, ends_acknowledgement, is_ok, most_code, status_after}
-use Rattle.lq_live.specs.Downtimes.{downtime_line, only_if}
+use Rattle.lq_log.specs.declared.written.DowntimeChange.{DowntimeChange}
+use Rattle.lq_log.specs.declared.written.DowntimeChange.TheVariants as downtime_change
+use Rattle.lq_log.specs.declared.written.Form.TheVariants as form
+use Rattle.lq_log.proofs.LineLemmas.{written_of_line}
+use Rattle.lq_live.specs.State.{LineNames, State, names_of, object_status}
+use Rattle.lq_live.specs.Results.{Attempt, check_attempt, differs, ends_acknowledgement, is_bar, is_ok, most_code, status_after}
+use Rattle.lq_live.specs.Downtimes.{crosses, depth, downtime_line, line_if, only_if}
 use Rattle.lq_live.specs.Effects.{AcknowledgeProblem, AddComment, CheckResult, Command, DelComment, DelDowntime, DisableNotifications, DisableNotificationsOf, EnableNotifications, EnableNotificationsOf, NewComment, NewDowntime, RemoveAcknowledgement, ScheduleDowntime, Unknown, alert_line, comment_of, downtime_of, holds, is_named, is_taken}
-use Rattle.lq_live.specs.Edits.{depth_line, depth_line_of, line_in}
-use Rattle.lq_live.specs.StepEdits.{acknowledge_edits_in, cancel_line, check_edits, comment_edits, effect_edits, known_edits, notify_edits, remove_acknowledgement_edits, result_edits, schedule_edits}
+use Rattle.lq_live.specs.Edits.{line_edits, line_in}
+use Rattle.lq_live.specs.StepEdits.{acknowledge_edits_in, change_edits, check_edits, comment_edits, effect_edits, known_edits, notify_edits, remove_acknowledgement_edits, remove_found_edits, result_edits, schedule_edits}
 use Rattle.lq_live.specs.Order.{EditAt, EditsAt, IsNew, LineAt, additions, all_additions}
 use Rattle.lq_live.specs.Kept.{MayFollow, Timely, time_behind}
 use Rattle.lq_live.specs.declared.edit.Edit.{Edit}
@@ -66,15 +69,16 @@ effect_unless second false edits is = is
 
 -- ---- the effects
 
-alert_time : (now : ℕ) (names : LineNames) (attempt : Attempt) (new : ℤ) (output : List ℕ) → (alert_line now names attempt new output).time ≡ now
+alert_at : (now : ℕ) (names : LineNames) (attempt : Attempt) (new : ℤ) (output : List ℕ) → LineAt now (Some (alert_line now names attempt new output))
 unfolding alert_line
-alert_time now names attempt new output = refl
+alert_at now names attempt new output =
+    (refl, written_of_line now (form.Alert names.host names.service new attempt.hard attempt.number (before_first is_bar output)))
 
 known_effect : (now : ℕ) (object : Object) (names : LineNames) (attempt : Attempt) (new : ℤ) (output : List ℕ) (old : Status)
     → IsEffect now (known_edits now object names attempt new output old)
 known_effect now object names attempt new output old =
     before_effect now (only_if (differs attempt new old) (edit.Line (alert_line now names attempt new output))) _
-    (only_if_at now (differs attempt new old) (edit.Line (alert_line now names attempt new output)) (alert_time now names attempt new output, tt))
+    (only_if_at now (differs attempt new old) (edit.Line (alert_line now names attempt new output)) (alert_at now names attempt new output, tt))
     (only_if_none (differs attempt new old) (edit.Line (alert_line now names attempt new output)) refl)
     (before_effect now (only_if (ends_acknowledgement new old) (edit.EndAcknowledgement object)) (edit.SetStatus object (status_after now attempt new output old) ∷ [])
     (only_if_at now (ends_acknowledgement new old) (edit.EndAcknowledgement object) (tt, tt))
@@ -89,8 +93,8 @@ result_effect now base object new output (Some names) (Some old) = known_effect 
 
 check_effect : (object : Object) (code : ℕ) (output : List ℕ) (s : State) → IsEffect s.now (check_edits object code output s)
 check_effect object code output s =
-    effect_if s.now (nat_le code (most_code object)) (result_edits s.now s.base object (pos code) output (names_of s.base object) (status_of s object))
-    (result_effect s.now s.base object (pos code) output (names_of s.base object) (status_of s object))
+    effect_if s.now (nat_le code (most_code object)) (result_edits s.now s.base object (pos code) output (names_of s.base object) (object_status s object))
+    (result_effect s.now s.base object (pos code) output (names_of s.base object) (object_status s object))
 
 comment_effect : (object : Object) (new : NewComment) (s : State) → IsEffect s.now (comment_edits object new s)
 comment_effect object new s =
@@ -107,11 +111,26 @@ remove_acknowledgement_effect object s = effect_if s.now (holds s.base object) _
 notify_effect : (object : Object) (on : ℕ) (s : State) → IsEffect s.now (notify_edits object on s)
 notify_effect object on s = if_effect s.now (holds s.base object) (edit.SetNotifications object on) (λ _. (tt, tt)) (omega arith)
 
-depth_line_at : (moment : ℕ) (word : List ℕ) (object : Object) (names : Option LineNames)
-    → LineAt moment (option_map (λ line. line.entry) (depth_line_of moment word object names))
+change_line_at : (moment : ℕ) (test : Bool) (change : DowntimeChange) (names : Option LineNames) (rest : List Edit) → EditsAt moment rest
+    → EditsAt moment (line_edits (line_if test moment change names) ++ rest)
 unfolding downtime_line
-depth_line_at moment word object None = tt
-depth_line_at moment word object (Some names) = refl
+change_line_at moment test change None rest at = at
+change_line_at moment false change (Some names) rest at = at
+change_line_at moment true change (Some names) rest at = (((refl, written_of_line moment (form.Downtime names.host names.service change)), tt), at)
+
+change_line_adds : (moment : ℕ) (test : Bool) (change : DowntimeChange) (names : Option LineNames) (rest : List Edit)
+    → all_additions (line_edits (line_if test moment change names) ++ rest) ≡ all_additions rest
+change_line_adds moment test change None rest = refl
+change_line_adds moment false change (Some names) rest = refl
+change_line_adds moment true change (Some names) rest = omega arith
+
+-- one edit behind the line of its change
+change_effect : (change : DowntimeChange) (object : Object) (changed : List Downtime) (edit : Edit) (s : State) → EditAt s.now edit → additions edit ≤ 1
+    → IsEffect s.now (change_edits change object changed s ++ edit ∷ [])
+change_effect change object changed edit s at one = record {
+  at = change_line_at s.now _ change (names_of s.base object) (edit ∷ []) (at, tt);
+  one = rw (change_line_adds s.now (crosses (depth object s.downtimes) (depth object changed)) change (names_of s.base object) (edit ∷ [])) (omega (arith, one));
+}
 
 taken_end : (now : ℕ) (new : NewDowntime) → is_taken now new ≡ true → (new.start < new.end) × (now + 1 ≤ new.end)
 taken_end now new is = (grind (arith, nat_tests, is), grind (arith, nat_tests, is))
@@ -131,26 +150,26 @@ both_true true b is = is
 both_true false b is = absurd (false≢true is)
 
 schedule_effect : (new : NewDowntime) (s : State) → IsEffect s.now (schedule_edits new s)
-schedule_effect new s =
-    if_effect s.now (holds s.base new.object && is_taken s.now new) (edit.AddDowntime (downtime_of new s) (depth_line s.base s.now (codes "STARTED") new.object))
-    (λ is. (depth_line_at s.now (codes "STARTED") new.object (names_of s.base new.object), new_downtime new s (taken_end s.now new (both_true (holds s.base new.object) _ is))))
-    (omega arith)
+schedule_effect new s = by (holds s.base new.object && is_taken s.now new) refl
+  where
+    by : (test : Bool) → (holds s.base new.object && is_taken s.now new) ≡ test → IsEffect s.now (schedule_edits new s)
+    by true is =
+        rw is (change_effect downtime_change.Started new.object (s.downtimes ++ downtime_of new s ∷ []) (edit.AddDowntime (downtime_of new s)) s
+        (tt, new_downtime new s (taken_end s.now new (both_true (holds s.base new.object) _ is))) (omega arith))
+    by false is = rw is (nothing s.now)
 
 one_edit : (second : ℕ) (edit : Edit) → EditAt second edit → additions edit ≤ 1 → IsEffect second (edit ∷ [])
 one_edit second edit at one = record { at = (at, tt); one = grind (arith, one) }
 
-cancel_at : (found : Option Downtime) (s : State) → LineAt s.now (option_map (λ line. line.entry) (cancel_line found s))
-cancel_at None s = tt
-cancel_at (Some found) s = depth_line_at s.now (codes "CANCELLED") found.object (names_of s.base found.object)
-
-remove_effect : (found : Option Downtime) (kind : ObjectKind) (id : ℕ) (s : State) → IsEffect s.now (edit.RemoveDowntime kind id (cancel_line found s) ∷ [])
-remove_effect found kind id s = one_edit s.now (edit.RemoveDowntime kind id (cancel_line found s)) (cancel_at found s, tt) (omega arith)
+remove_effect : (found : Option Downtime) (kind : ObjectKind) (id : ℕ) (s : State) → IsEffect s.now (remove_found_edits found kind id s)
+remove_effect None kind id s = nothing s.now
+remove_effect (Some found) kind id s = change_effect downtime_change.Cancelled found.object (filter (λ downtime. not (is_named kind id downtime.id downtime.object)) s.downtimes) (edit.RemoveDowntime kind id) s (tt, tt) (omega arith)
 
 pub effect_is : (command : Command) (s : State) → IsEffect s.now (effect_edits command s)
 effect_is (CheckResult object code output) s = check_effect object code output s
 effect_is (AddComment object new) s = comment_effect object new s
 effect_is (DelComment kind id) s = one_edit s.now (edit.RemoveComment kind id) (tt, tt) (omega arith)
-effect_is (AcknowledgeProblem object sticky new) s = acknowledge_effect (status_of s object) object sticky new s
+effect_is (AcknowledgeProblem object sticky new) s = acknowledge_effect (object_status s object) object sticky new s
 effect_is (RemoveAcknowledgement object) s = remove_acknowledgement_effect object s
 effect_is (ScheduleDowntime new) s = schedule_effect new s
 effect_is (DelDowntime kind id) s = remove_effect (find (λ downtime. is_named kind id downtime.id downtime.object) s.downtimes) kind id s
@@ -164,7 +183,9 @@ effect_is Unknown s = nothing s.now
 at_by : (second : ℕ) (line : Option LogEntry) (edits : List Edit) → second < time_limit → LineAt second line → Timely second edits
     → MayFollow second line × Timely (time_behind second line) edits
 at_by second None edits below at timely = (tt, timely)
-at_by second (Some entry) edits below at timely = rw at ((omega arith, below), timely)
+at_by second (Some entry) edits below at timely =
+    let can : entry.time < time_limit = rw at.0 below in
+    ((omega (arith, at.0), can, at.1 can), rw at.0 timely)
 
 pub at_timely : (second : ℕ) (edits : List Edit) → second < time_limit → EditsAt second edits → Timely second edits
 at_timely second [] below all = tt

@@ -9,7 +9,8 @@ use Rattle.lq_live.specs.State.{State, with_status}
 use Rattle.lq_live.specs.Always.{IsFront}
 use Rattle.lq_live.specs.Effects.{acknowledge_as, command_of}
 use Rattle.lq_live.specs.Edits.{make_edit, play_edits}
-use Rattle.lq_live.specs.Kept.{at_second}
+use Rattle.lq_live.specs.Ids.{HasRisingIds}
+use Rattle.lq_live.specs.Kept.{AllOrdered, at_second}
 use Rattle.lq_live.specs.Step.{second_after, step}
 use Rattle.lq_live.specs.StepEdits.{effect_edits}
 use Rattle.lq_live.specs.declared.edit.Edit.{Edit}
@@ -31,9 +32,6 @@ status_front change (object.Service id) s = own_front s.log
 
 edit_front : (edit : Edit) (s : State) → IsFront s.log (make_edit edit s).log
 edit_front (edit.Line entry) s = more_front s.log _
-edit_front (edit.Moment event line) s = more_front s.log _
-edit_front (edit.AddDowntime downtime line) s = more_front s.log _
-edit_front (edit.RemoveDowntime kind id line) s = more_front s.log _
 edit_front (edit.SetStatus object status) s = status_front (λ _. status) object s
 edit_front (edit.SetAcknowledgement object kind) s = status_front (acknowledge_as kind) object s
 edit_front (edit.SetNotifications object on) s = status_front (λ status. record status { notifications_enabled = on }) object s
@@ -43,10 +41,10 @@ play_front : (edits : List Edit) (s : State) → IsFront s.log (play_edits edits
 play_front [] s = own_front s.log
 play_front (edit ∷ edits) s = front_on s.log (make_edit edit s).log (play_edits edits (make_edit edit s)).log (edit_front edit s) (play_front edits (make_edit edit s))
 
-pub step_front : (s : State) (update : Update) → IsFront s.log (step s update).log
-step_front s update =
+pub step_front : (s : State) (update : Update) → HasRisingIds s → AllOrdered s.downtimes → IsFront s.log (step s update).log
+step_front s update ids order =
     let changes : List Edit = effect_edits (command_of update.act) (at_second (second_after s update) s) in
-    subst (λ t. IsFront s.log t.log) (step_by s update)
+    subst (λ t. IsFront s.log t.log) (step_by s update ids order)
     (front_on s.log (ready_by s update).log (play_edits changes (ready_by s update)).log
     (front_on s.log _ (ready_by s update).log (more_front s.log _) (more_front _ _))
     (play_front changes (ready_by s update)))
@@ -67,7 +65,7 @@ play_base : (edits : List Edit) (s : State) → (play_edits edits s).base ≡ s.
 play_base [] s = refl
 play_base (edit ∷ edits) s = play_base edits (make_edit edit s) ∙ edit_base edit s
 
-pub step_base : (s : State) (update : Update) → (step s update).base ≡ s.base
-step_base s update =
-    ap (λ (t : State). t.base) (sym (step_by s update))
+pub step_base : (s : State) (update : Update) → HasRisingIds s → AllOrdered s.downtimes → (step s update).base ≡ s.base
+step_base s update ids order =
+    ap (λ (t : State). t.base) (sym (step_by s update ids order))
     ∙ play_base (effect_edits (command_of update.act) (at_second (second_after s update) s)) (ready_by s update)

@@ -1,24 +1,27 @@
 -- A step gives no id twice.
-use Rattle.std.proofs.Common.{◌≡◌, ℕ, ℤ, pos, ◌+◌, ◌<◌, ◌≤◌, ◌==◌, ◌&&◌, not, codes, nat_le, Bool, true, false, Option, Some, None, List, [], ◌∷◌, ◌++◌, map, filter, refl, arith, if◌then◌else◌}
+use Rattle.std.proofs.Common.{◌≡◌, ℕ, ℤ, pos, ◌+◌, ◌<◌, ◌≤◌, ◌&&◌, not, nat_le, Bool, true, false, Option, Some, None, List, [], ◌∷◌, ◌++◌, filter, refl, arith, if◌then◌else◌}
+use Rattle.std.specs.List.{find}
 use Rattle.lq_records.specs.declared.base.Base.{Base}
 use Rattle.lq_records.specs.declared.object.Object.{Object}
 use Rattle.lq_records.specs.declared.object.Object.TheVariants as object
+use Rattle.lq_records.specs.declared.object.ObjectKind.{ObjectKind}
+use Rattle.lq_events.specs.declared.log_entry.LogEntry.{LogEntry}
 use Rattle.lq_events.specs.declared.status.Downtime.{Downtime}
 use Rattle.lq_events.specs.declared.status.Status.{Status}
 use Rattle.lq_events.specs.declared.update.Update.{Update}
-use Rattle.lq_live.specs.State.{LineNames, State, names_of, status_of, with_status}
+use Rattle.lq_live.specs.State.{LineNames, State, names_of, object_status, with_status}
 use Rattle.lq_live.specs.Results.{Attempt, check_attempt, differs, ends_acknowledgement, is_ok, most_code}
-use Rattle.lq_live.specs.Downtimes.{after, begin, due, only_if}
+use Rattle.lq_live.specs.Downtimes.{only_if}
 use Rattle.lq_live.specs.Effects.{AcknowledgeProblem, AddComment, CheckResult, Command, DelComment, DelDowntime, DisableNotifications, DisableNotificationsOf, EnableNotifications, EnableNotificationsOf, NewComment, RemoveAcknowledgement, ScheduleDowntime, Unknown, acknowledge_as, alert_line, comment_of, downtime_of, goes_with_acknowledgement, holds, is_named, is_taken}
-use Rattle.lq_live.specs.Edits.{depth_line, make_edit, play_edits}
+use Rattle.lq_live.specs.Edits.{line_edits, make_edit, play_edits}
 use Rattle.lq_live.specs.Ids.{HasRisingIds, IdsRise, comment_id, downtime_id}
-use Rattle.lq_live.specs.Order.{EditAt, EditsAt, additions, after_all, all_additions}
+use Rattle.lq_live.specs.Order.{EditAt, EditsAt, additions, all_additions}
 use Rattle.lq_live.specs.Step.{second_after}
-use Rattle.lq_live.specs.StepEdits.{acknowledge_edits_in, effect_edits, result_edits}
+use Rattle.lq_live.specs.StepEdits.{acknowledge_edits_in, effect_edits, remove_found_edits, result_edits}
 use Rattle.lq_live.specs.declared.edit.Edit.{Edit}
 use Rattle.lq_live.specs.declared.edit.Edit.TheVariants as edit
-use Rattle.lq_live.specs.declared.event.Event.{Event}
 use Rattle.lq_live.proofs.Played.{ready_by}
+use Rattle.lq_live.proofs.Settled.{settled_rise}
 
 -- ---- lists whose ids rise
 
@@ -31,7 +34,7 @@ kept_rise : {A : Type 0} (id : A → ℕ) (test : A → Bool) (least next : ℕ)
 kept_rise id test least next item items true is low below rest = rw is (low, below, rest)
 kept_rise id test least next item items false is low below rest = rw is (lower id least (id item + 1) next (filter test items) (omega (arith, low)) rest)
 
-filter_rise : {A : Type 0} (id : A → ℕ) (test : A → Bool) (least next : ℕ) (items : List A) → IdsRise id least next items → IdsRise id least next (filter test items)
+pub filter_rise : {A : Type 0} (id : A → ℕ) (test : A → Bool) (least next : ℕ) (items : List A) → IdsRise id least next items → IdsRise id least next (filter test items)
 filter_rise id test least next [] all = tt
 filter_rise id test least next (item ∷ items) all =
     kept_rise id test least next item items (test item) refl all.0 all.1 (filter_rise id test (id item + 1) next items all.2)
@@ -42,29 +45,10 @@ added_rise id least next item [] low is all = (omega (arith, low, is), omega (ar
 added_rise id least next item (first ∷ items) low is all =
     (all.0, omega (arith, all.1), added_rise id (id first + 1) next item items (omega (arith, all.1)) is all.2)
 
--- ---- downtimes that begin and end
-
-begin_by : (id least next : ℕ) (d : Downtime) (ds : List Downtime) (test : Bool) → (d.id == id) ≡ test → least ≤ d.id → d.id < next
-    → IdsRise downtime_id (d.id + 1) next (map (begin id) ds) → IdsRise downtime_id least next (map (begin id) (d ∷ ds))
-begin_by id least next d ds true is low below rest = rw is (low, below, rest)
-begin_by id least next d ds false is low below rest = rw is (low, below, rest)
-
-begin_rise : (id least next : ℕ) (ds : List Downtime) → IdsRise downtime_id least next ds → IdsRise downtime_id least next (map (begin id) ds)
-begin_rise id least next [] all = tt
-begin_rise id least next (d ∷ ds) all = begin_by id least next d ds (d.id == id) refl all.0 all.1 (begin_rise id (d.id + 1) next ds all.2)
-
-after_by : (next : ℕ) (event : Event) (ds : List Downtime) (starts : Bool) → event.starts ≡ starts → IdsRise downtime_id 0 next ds → IdsRise downtime_id 0 next (after event ds)
-after_by next event ds true is all = rw is (begin_rise event.id 0 next ds all)
-after_by next event ds false is all = rw is (filter_rise downtime_id (λ downtime. not (downtime.id == event.id)) 0 next ds all)
-
-after_all_rise : (next : ℕ) (events : List Event) (ds : List Downtime) → IdsRise downtime_id 0 next ds → IdsRise downtime_id 0 next (after_all events ds)
-after_all_rise next [] ds all = all
-after_all_rise next (event ∷ events) ds all = after_all_rise next events (after event ds) (after_by next event ds event.starts refl all)
-
 -- ---- edits that give the next ids
 
 abbrev pub GivesId : ℕ → ℕ → Edit → Type 0
-GivesId downtime comment (edit.AddDowntime added line) = added.id ≡ downtime
+GivesId downtime comment (edit.AddDowntime added) = added.id ≡ downtime
 GivesId downtime comment (edit.AddComment added) = added.id ≡ comment
 GivesId downtime comment _ = Unit {0}
 
@@ -78,7 +62,6 @@ ids_with_status change (object.Service id) s has = record { downtimes = has.down
 
 ids_edited : (second : ℕ) (edit : Edit) (s : State) → EditAt second edit → GivesId s.next_downtime s.next_comment edit → HasRisingIds s → HasRisingIds (make_edit edit s)
 ids_edited second (edit.Now later) s at gives has = absurd at.1
-ids_edited second (edit.Moment event line) s at gives has = absurd at.1
 ids_edited second (edit.Line entry) s at gives has = record { downtimes = has.downtimes; comments = has.comments }
 ids_edited second (edit.SetStatus object status) s at gives has = ids_with_status (λ _. status) object s has
 ids_edited second (edit.SetAcknowledgement object kind) s at gives has = ids_with_status (acknowledge_as kind) object s has
@@ -95,11 +78,11 @@ ids_edited second (edit.RemoveComment kind id) s at gives has = record {
   downtimes = has.downtimes;
   comments = filter_rise comment_id (λ comment. not (is_named kind id comment.id comment.object)) 0 s.next_comment s.comments has.comments;
 }
-ids_edited second (edit.AddDowntime downtime line) s at gives has = record {
+ids_edited second (edit.AddDowntime downtime) s at gives has = record {
   downtimes = added_rise downtime_id 0 s.next_downtime downtime s.downtimes (omega arith) gives has.downtimes;
   comments = has.comments;
 }
-ids_edited second (edit.RemoveDowntime kind id line) s at gives has = record {
+ids_edited second (edit.RemoveDowntime kind id) s at gives has = record {
   downtimes = filter_rise downtime_id (λ downtime. not (is_named kind id downtime.id downtime.object)) 0 s.next_downtime s.downtimes has.downtimes;
   comments = has.comments;
 }
@@ -108,7 +91,7 @@ ids_edited second (edit.NotifyAtAll on) s at gives has = record { downtimes = ha
 -- edits that add nothing give any ids
 none_given : (downtime comment : ℕ) (edits : List Edit) → all_additions edits ≡ 0 → GiveIds downtime comment edits
 none_given downtime comment [] none = tt
-none_given downtime comment (edit.AddDowntime more line ∷ edits) none = (omega (arith, none), none_given downtime comment edits (omega (arith, none)))
+none_given downtime comment (edit.AddDowntime more ∷ edits) none = (omega (arith, none), none_given downtime comment edits (omega (arith, none)))
 none_given downtime comment (edit.AddComment more ∷ edits) none = (omega (arith, none), none_given downtime comment edits (omega (arith, none)))
 none_given downtime comment (_ ∷ edits) none = (tt, none_given downtime comment edits (omega (arith, none)))
 
@@ -119,7 +102,7 @@ given_with_status change (object.Service id) edits s give = give
 
 given_later : (edit : Edit) (edits : List Edit) (s : State) → additions edit + all_additions edits ≤ 1 → GiveIds s.next_downtime s.next_comment edits
     → GiveIds (make_edit edit s).next_downtime (make_edit edit s).next_comment edits
-given_later (edit.AddDowntime more line) edits s one give = none_given (s.next_downtime + 1) s.next_comment edits (omega (arith, one))
+given_later (edit.AddDowntime more) edits s one give = none_given (s.next_downtime + 1) s.next_comment edits (omega (arith, one))
 given_later (edit.AddComment more) edits s one give = none_given s.next_downtime (s.next_comment + 1) edits (omega (arith, one))
 given_later (edit.SetStatus object status) edits s one give = given_with_status (λ _. status) object edits s give
 given_later (edit.SetAcknowledgement object kind) edits s one give = given_with_status (acknowledge_as kind) object edits s give
@@ -166,19 +149,28 @@ acknowledge_given : (old : Option Status) (object : Object) (sticky : ℕ) (new 
 acknowledge_given None object sticky new s = tt
 acknowledge_given (Some old) object sticky new s = given_unless s.next_downtime s.next_comment (is_ok old.state) _ (tt, (refl, tt))
 
+-- the edits of lines give none
+lines_given : (downtime comment : ℕ) (entries : List LogEntry) (rest : List Edit) → GiveIds downtime comment rest → GiveIds downtime comment (line_edits entries ++ rest)
+lines_given downtime comment [] rest give = give
+lines_given downtime comment (entry ∷ entries) rest give = (tt, lines_given downtime comment entries rest give)
+
+remove_given : (found : Option Downtime) (kind : ObjectKind) (id : ℕ) (s : State) → GiveIds s.next_downtime s.next_comment (remove_found_edits found kind id s)
+remove_given None kind id s = tt
+remove_given (Some found) kind id s = lines_given s.next_downtime s.next_comment _ (edit.RemoveDowntime kind id ∷ []) (tt, tt)
+
 pub effect_given : (command : Command) (s : State) → GiveIds s.next_downtime s.next_comment (effect_edits command s)
 effect_given (CheckResult object code output) s =
     given_if s.next_downtime s.next_comment (nat_le code (most_code object)) _
-    (result_given s s.base object (pos code) output (names_of s.base object) (status_of s object))
+    (result_given s s.base object (pos code) output (names_of s.base object) (object_status s object))
 effect_given (AddComment object new) s =
     given_only_if s.next_downtime s.next_comment (holds s.base object) (edit.AddComment (comment_of 1 object new s)) refl
 effect_given (DelComment kind id) s = (tt, tt)
-effect_given (AcknowledgeProblem object sticky new) s = acknowledge_given (status_of s object) object sticky new s
+effect_given (AcknowledgeProblem object sticky new) s = acknowledge_given (object_status s object) object sticky new s
 effect_given (RemoveAcknowledgement object) s = given_if s.next_downtime s.next_comment (holds s.base object) _ (tt, (tt, tt))
 effect_given (ScheduleDowntime new) s =
-    given_only_if s.next_downtime s.next_comment (holds s.base new.object && is_taken s.now new)
-    (edit.AddDowntime (downtime_of new s) (depth_line s.base s.now (codes "STARTED") new.object)) refl
-effect_given (DelDowntime kind id) s = (tt, tt)
+    given_if s.next_downtime s.next_comment (holds s.base new.object && is_taken s.now new) _
+    (lines_given s.next_downtime s.next_comment _ (edit.AddDowntime (downtime_of new s) ∷ []) (refl, tt))
+effect_given (DelDowntime kind id) s = remove_given (find (λ downtime. is_named kind id downtime.id downtime.object) s.downtimes) kind id s
 effect_given (EnableNotificationsOf object) s = given_only_if s.next_downtime s.next_comment (holds s.base object) (edit.SetNotifications object 1) tt
 effect_given (DisableNotificationsOf object) s = given_only_if s.next_downtime s.next_comment (holds s.base object) (edit.SetNotifications object 0) tt
 effect_given EnableNotifications s = (tt, tt)
@@ -189,6 +181,6 @@ effect_given Unknown s = tt
 
 pub ids_ready : (s : State) (update : Update) → HasRisingIds s → HasRisingIds (ready_by s update)
 ids_ready s update has = record {
-  downtimes = after_all_rise s.next_downtime (due (second_after s update) s.downtimes) s.downtimes has.downtimes;
+  downtimes = settled_rise (second_after s update) 0 s.next_downtime s.downtimes has.downtimes;
   comments = has.comments;
 }

@@ -1,8 +1,5 @@
 -- What every state keeps, through a step.
-use Rattle.std.proofs.Common.{◌≡◌, ℕ, ◌+◌, ◌<◌, ◌≤◌, ◌==◌, not, max, min, Bool, true, false, Option, Some, None, List, [], ◌∷◌, ◌++◌, length, map, filter, refl, subst, arith, length-append}
-use Rattle.std.proofs.lemmas.List.{length-set}
-use Rattle.std.specs.List.{slice_get}
-use Rattle.std.specs.Option.{option_map}
+use Rattle.std.proofs.Common.{◌≡◌, ℕ, ◌+◌, ◌<◌, ◌≤◌, not, max, min, Bool, true, false, List, [], ◌∷◌, ◌++◌, length, filter, refl, subst, arith, length-append}
 use Rattle.lq_records.specs.declared.object.Object.{Object}
 use Rattle.lq_records.specs.declared.object.Object.TheVariants as object
 use Rattle.lq_events.specs.declared.log_entry.LogEntry.{LogEntry}
@@ -12,25 +9,25 @@ use Rattle.lq_events.specs.declared.update.Update.{Update}
 use Rattle.lq_log.specs.Book.{last_time, time_limit}
 use Rattle.lq_log.specs.Written.{written}
 use Rattle.lq_log.specs.declared.written.Form.TheVariants as form
-use Rattle.lq_live.specs.State.{State, changed_at, with_status}
-use Rattle.lq_live.specs.Downtimes.{after, begin, crosses, due, only_if}
+use Rattle.lq_log.proofs.LineLemmas.{written_of_line}
+use Rattle.lq_live.specs.State.{State, with_status}
+use Rattle.lq_live.specs.Downtimes.{Event, due}
 use Rattle.lq_live.specs.Effects.{acknowledge_as, command_of, is_named}
-use Rattle.lq_live.specs.Edits.{depth_in, make_edit, play_edits, written_lines}
-use Rattle.lq_live.specs.StepEdits.{advance_edits, effect_edits, event_edit, step_edits}
-use Rattle.lq_live.specs.Order.{EditAt, EditsAt, LineAt, LinesUpTo, Rising, additions, after_all, all_additions, due_lines}
+use Rattle.lq_live.specs.Edits.{line_edits, make_edit, play_edits}
+use Rattle.lq_live.specs.StepEdits.{advance_edits, effect_edits, step_edits}
+use Rattle.lq_live.specs.Order.{EditAt, EditsAt, LinesUpTo, Rising, additions, all_additions, due_lines}
 use Rattle.lq_live.specs.Ids.{HasRisingIds}
 use Rattle.lq_live.specs.Kept.{AllBegun, AllFrom, AllOrdered, IsKept, Timely, at_second}
 use Rattle.lq_live.specs.Step.{second_after, step}
-use Rattle.lq_live.specs.declared.event.Event.{Event}
-use Rattle.lq_live.specs.declared.edit.DepthLine.{DepthLine}
 use Rattle.lq_live.specs.declared.edit.Edit.{Edit}
 use Rattle.lq_live.specs.declared.edit.Edit.TheVariants as edit
 use Rattle.lq_live.proofs.Ahead.{added_from, filter_from}
-use Rattle.lq_live.proofs.Begun.{added_begun, due_begun, filter_begun}
-use Rattle.lq_live.proofs.Covered.{nothing_left}
+use Rattle.lq_live.proofs.Begun.{added_begun, filter_begun}
+use Rattle.lq_live.proofs.Changed.{changed_length}
 use Rattle.lq_live.proofs.IdLemmas.{effect_given, ids_played, ids_ready}
 use Rattle.lq_live.proofs.EffectLemmas.{IsEffect, at_timely, effect_is}
 use Rattle.lq_live.proofs.Played.{ready_by, step_by}
+use Rattle.lq_live.proofs.Settled.{settled_begun, settled_from, settled_ordered}
 use Rattle.lq_live.proofs.Rising.{due_lines_up_to, due_rising, due_timely, timely_later}
 
 -- ---- the last line
@@ -53,22 +50,6 @@ ordered_kept test d ds false is order rest = rw is rest
 ordered_filter : (test : Downtime → Bool) (ds : List Downtime) → AllOrdered ds → AllOrdered (filter test ds)
 ordered_filter test [] all = tt
 ordered_filter test (d ∷ ds) all = ordered_kept test d ds (test d) refl all.0 (ordered_filter test ds all.1)
-
-begin_order : (id : ℕ) (d : Downtime) (test : Bool) → (d.id == id) ≡ test → d.start < d.end → (begin id d).start < (begin id d).end
-begin_order id d true is order = rw is order
-begin_order id d false is order = rw is order
-
-ordered_begin : (id : ℕ) (ds : List Downtime) → AllOrdered ds → AllOrdered (map (begin id) ds)
-ordered_begin id [] all = tt
-ordered_begin id (d ∷ ds) all = (begin_order id d (d.id == id) refl all.0, ordered_begin id ds all.1)
-
-ordered_by : (event : Event) (ds : List Downtime) (test : Bool) → event.starts ≡ test → AllOrdered ds → AllOrdered (after event ds)
-ordered_by event ds true is all = rw is (ordered_begin event.id ds all)
-ordered_by event ds false is all = rw is (ordered_filter (λ downtime. not (downtime.id == event.id)) ds all)
-
-ordered_after : (events : List Event) (ds : List Downtime) → AllOrdered ds → AllOrdered (after_all events ds)
-ordered_after [] ds all = all
-ordered_after (event ∷ events) ds all = ordered_after events (after event ds) (ordered_by event ds event.starts refl all)
 
 ordered_added : (d : Downtime) (ds : List Downtime) → d.start < d.end → AllOrdered ds → AllOrdered (ds ++ d ∷ [])
 ordered_added d [] order all = (order, tt)
@@ -106,14 +87,6 @@ same_fields second count least s t hosts services base now log downtimes next_do
   longer = rw log of.longer;
 }
 
-changed_by : {X : Type 0} (change : X → X) (place : ℕ) (items : List X) (found : Option X) → slice_get items place ≡ found
-    → length (changed_at change place items) ≡ length items
-changed_by change place items None is = rw is refl
-changed_by change place items (Some item) is = rw is (length-set items place (change item))
-
-changed_length : {X : Type 0} (change : X → X) (place : ℕ) (items : List X) → length (changed_at change place items) ≡ length items
-changed_length change place items = changed_by change place items (slice_get items place) refl
-
 of_status : (second count least : ℕ) (change : Status → Status) (object : Object) (s : State) → IsOf second (0 + count) least s
     → IsOf second count least (with_status change object s)
 of_status second count least change (object.Host id) s of =
@@ -121,22 +94,13 @@ of_status second count least change (object.Host id) s of =
 of_status second count least change (object.Service id) s of =
     same_fields second count least s (with_status change (object.Service id) s) refl (changed_length change id.0 s.service_status) refl refl refl refl refl refl of
 
-only_if_up_to : (second : ℕ) (test : Bool) (entry : LogEntry) → entry.time ≡ second → LinesUpTo second (only_if test entry)
-only_if_up_to second true entry at = (omega (arith, at), tt)
-only_if_up_to second false entry at = tt
-
-written_up_to : (second : ℕ) (line : Option DepthLine) (before later : ℕ) → LineAt second (option_map (λ line. line.entry) line) → LinesUpTo second (written_lines line before later)
-written_up_to second None before later at = tt
-written_up_to second (Some line) before later at = only_if_up_to second (crosses before later) line.entry at
-
 of_edited : (second count least : ℕ) (edit : Edit) (s : State) → EditAt second edit → IsOf second (additions edit + count) least s → IsOf second count least (make_edit edit s)
 of_edited second count least (edit.Now later) s at of = absurd at.1
-of_edited second count least (edit.Moment event line) s at of = absurd at.1
 of_edited second count least (edit.Line entry) s at of = record {
   hosts = of.hosts;
   services = of.services;
   now = of.now;
-  lines = last_up_to second s.log (entry ∷ []) of.lines (omega (arith, at.0), tt);
+  lines = last_up_to second s.log (entry ∷ []) of.lines (omega (arith, at.0.0), tt);
   ahead = of.ahead;
   order = of.order;
   begun = of.begun;
@@ -163,35 +127,30 @@ of_edited second count least (edit.AddComment comment) s at of = record {
 }
 of_edited second count least (edit.RemoveComment kind id) s at of =
     same_fields second count least s (make_edit (edit.RemoveComment kind id) s) refl refl refl refl refl refl refl refl of
-of_edited second count least (edit.AddDowntime downtime line) s at of =
-    let lines : List LogEntry = written_lines line (depth_in line s.downtimes) (depth_in line (s.downtimes ++ downtime ∷ [])) in
-    record {
-      hosts = of.hosts;
-      services = of.services;
-      now = of.now;
-      lines = last_up_to second s.log lines of.lines (written_up_to second line _ _ at.0);
-      ahead = added_from (second + 1) downtime s.downtimes of.ahead at.1.ahead;
-      order = ordered_added downtime s.downtimes at.1.order of.order;
-      begun = added_begun second downtime s.downtimes of.begun at.1.begun;
-      downtime_ids = omega (arith, of.downtime_ids, length-append s.log lines);
-      comment_ids = omega (arith, of.comment_ids, length-append s.log lines);
-      longer = omega (arith, of.longer, length-append s.log lines);
-    }
-of_edited second count least (edit.RemoveDowntime kind id line) s at of =
-    let kept : List Downtime = filter (λ downtime. not (is_named kind id downtime.id downtime.object)) s.downtimes in
-    let lines : List LogEntry = written_lines line (depth_in line s.downtimes) (depth_in line kept) in
-    record {
-      hosts = of.hosts;
-      services = of.services;
-      now = of.now;
-      lines = last_up_to second s.log lines of.lines (written_up_to second line _ _ at.0);
-      ahead = filter_from (second + 1) (λ downtime. not (is_named kind id downtime.id downtime.object)) s.downtimes of.ahead;
-      order = ordered_filter (λ downtime. not (is_named kind id downtime.id downtime.object)) s.downtimes of.order;
-      begun = filter_begun second (λ downtime. not (is_named kind id downtime.id downtime.object)) s.downtimes of.begun;
-      downtime_ids = omega (arith, of.downtime_ids, length-append s.log lines);
-      comment_ids = omega (arith, of.comment_ids, length-append s.log lines);
-      longer = omega (arith, of.longer, length-append s.log lines);
-    }
+of_edited second count least (edit.AddDowntime downtime) s at of = record {
+  hosts = of.hosts;
+  services = of.services;
+  now = of.now;
+  lines = of.lines;
+  ahead = added_from (second + 1) downtime s.downtimes of.ahead at.1.ahead;
+  order = ordered_added downtime s.downtimes at.1.order of.order;
+  begun = added_begun second downtime s.downtimes of.begun at.1.begun;
+  downtime_ids = omega (arith, of.downtime_ids);
+  comment_ids = omega (arith, of.comment_ids);
+  longer = of.longer;
+}
+of_edited second count least (edit.RemoveDowntime kind id) s at of = record {
+  hosts = of.hosts;
+  services = of.services;
+  now = of.now;
+  lines = of.lines;
+  ahead = filter_from (second + 1) (λ downtime. not (is_named kind id downtime.id downtime.object)) s.downtimes of.ahead;
+  order = ordered_filter (λ downtime. not (is_named kind id downtime.id downtime.object)) s.downtimes of.order;
+  begun = filter_begun second (λ downtime. not (is_named kind id downtime.id downtime.object)) s.downtimes of.begun;
+  downtime_ids = omega (arith, of.downtime_ids);
+  comment_ids = omega (arith, of.comment_ids);
+  longer = of.longer;
+}
 of_edited second count least (edit.NotifyAtAll on) s at of =
     same_fields second count least s (make_edit (edit.NotifyAtAll on) s) refl refl refl refl refl refl refl refl of
 
@@ -219,9 +178,9 @@ of_ready s update kept =
       now = refl;
       lines = last_up_to second (s.log ++ lines) (line ∷ [])
           (last_up_to second s.log lines (omega (arith, kept.lines, later)) (due_lines_up_to s.now second s.base events s.downtimes rising)) (omega arith, tt);
-      ahead = nothing_left second s.downtimes;
-      order = ordered_after events s.downtimes kept.order;
-      begun = due_begun s.now second s.next_downtime s.downtimes later kept.ids.downtimes kept.begun;
+      ahead = settled_from second s.downtimes;
+      order = settled_ordered second s.downtimes kept.order;
+      begun = settled_begun second s.now s.downtimes later kept.begun;
       downtime_ids = rw longer (omega (arith, kept.downtime_ids));
       comment_ids = rw longer (omega (arith, kept.comment_ids));
       longer = rw longer (omega arith);
@@ -246,16 +205,16 @@ of_step s update kept =
     let second : ℕ = second_after s update in
     let changes : List Edit = effect_edits (command_of update.act) (at_second second s) in
     let is : IsEffect second changes = effect_is (command_of update.act) (at_second second s) in
-    subst (λ t. IsOf second 0 (length s.log + 1) t) (step_by s update)
+    subst (λ t. IsOf second 0 (length s.log + 1) t) (step_by s update kept.ids kept.order)
     (of_played second (length s.log + 1) changes (ready_by s update) is.at
     (fewer second 1 (all_additions changes) (length s.log + 1) (ready_by s update) is.one (of_ready s update kept)))
 
-step_ids : (s : State) (update : Update) → HasRisingIds s → HasRisingIds (step s update)
-step_ids s update has =
+step_ids : (s : State) (update : Update) → HasRisingIds s → AllOrdered s.downtimes → HasRisingIds (step s update)
+step_ids s update has order =
     let second : ℕ = second_after s update in
     let changes : List Edit = effect_edits (command_of update.act) (at_second second s) in
     let is : IsEffect second changes = effect_is (command_of update.act) (at_second second s) in
-    subst (λ t. HasRisingIds t) (step_by s update)
+    subst (λ t. HasRisingIds t) (step_by s update has order)
     (ids_played second changes (ready_by s update) is.at is.one (effect_given (command_of update.act) (at_second second s)) (ids_ready s update has))
 
 pub step_kept : (s : State) (update : Update) → IsKept s → IsKept (step s update)
@@ -271,7 +230,7 @@ step_kept s update kept =
       second = rw of.now (second_below s.now update.time kept.second);
       downtime_ids = omega (arith, of.downtime_ids);
       comment_ids = omega (arith, of.comment_ids);
-      ids = step_ids s update kept.ids;
+      ids = step_ids s update kept.ids kept.order;
     }
 
 -- the second doesn't go back
@@ -295,7 +254,7 @@ step_timely s update kept =
     let is : IsEffect second changes = effect_is (command_of update.act) (at_second second s) in
     let line : Edit = edit.Line (written second (form.External update.text)) in (
       tt,
-      timely_later (last_time s.log) s.now (map (event_edit s.base) events ++ line ∷ changes) kept.lines
-          (due_timely s.now second s.base events (line ∷ changes)
-          (due_rising s.now second s.downtimes kept.ahead) later below ((omega arith, below), at_timely second changes below is.at)),
+      timely_later (last_time s.log) s.now (line_edits (due_lines s.base events s.downtimes) ++ line ∷ changes) kept.lines
+          (due_timely s.now second s.base events s.downtimes (line ∷ changes)
+          (due_rising s.now second s.downtimes kept.ahead) later below ((omega arith, below, written_of_line second (form.External update.text) below), at_timely second changes below is.at)),
     )

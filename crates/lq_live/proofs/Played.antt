@@ -1,8 +1,6 @@
 -- The edits of a step, played, are the step.
-use Rattle.std.proofs.Common.{◌≡◌, ℕ, ℤ, pos, ◌+◌, ◌&&◌, nat_le, not, codes, Bool, true, false, Option, Some, None, List, [], ◌∷◌, ◌++◌, map, filter, refl, sym, ap, ◌∙◌, arith, append-nil, append_assoc, if◌then◌else◌}
-use Rattle.std.proofs.lemmas.Bool.Decides.{nat_tests}
+use Rattle.std.proofs.Common.{◌≡◌, ℕ, ℤ, pos, ◌&&◌, nat_le, not, Bool, true, false, Option, Some, None, List, [], ◌∷◌, ◌++◌, filter, refl, sym, ap, ◌∙◌, append-nil, append_assoc, if◌then◌else◌}
 use Rattle.std.specs.List.{find}
-use Rattle.lq_records.specs.declared.base.Base.{Base}
 use Rattle.lq_records.specs.declared.object.Object.{Object}
 use Rattle.lq_records.specs.declared.object.Object.TheVariants as object
 use Rattle.lq_records.specs.declared.object.ObjectKind.{ObjectKind}
@@ -11,57 +9,34 @@ use Rattle.lq_events.specs.declared.status.Downtime.{Downtime}
 use Rattle.lq_events.specs.declared.status.Status.{Status}
 use Rattle.lq_events.specs.declared.update.Update.{Update}
 use Rattle.lq_log.specs.Written.{written}
+use Rattle.lq_log.specs.declared.written.DowntimeChange.{DowntimeChange}
+use Rattle.lq_log.specs.declared.written.DowntimeChange.TheVariants as downtime_change
 use Rattle.lq_log.specs.declared.written.Form.TheVariants as form
-use Rattle.lq_live.specs.State.{LineNames, State, names_of, status_of}
+use Rattle.lq_live.specs.State.{LineNames, State, names_of, object_status}
 use Rattle.lq_live.specs.Results.{Attempt, check_attempt, differs, ends_acknowledgement, is_ok, most_code, status_after}
-use Rattle.lq_live.specs.Downtimes.{after, change_downtimes, crosses, depth, due, happen, happen_all, line_if, only_if, word_of}
-use Rattle.lq_live.specs.Effects.{AcknowledgeProblem, AddComment, CheckResult, Command, DelComment, DelDowntime, DisableNotifications, DisableNotificationsOf, EnableNotifications, EnableNotificationsOf, NewComment, NewDowntime, RemoveAcknowledgement, ScheduleDowntime, Unknown, acknowledge_in, add_line, alert_line, check_result, command_of, comment_of, downtime_of, effect_of, holds, is_named, is_taken, remove_downtime, remove_found, result_of, schedule, take_result, when}
-use Rattle.lq_live.specs.Edits.{change_with, depth_in, depth_line, depth_line_of, make_edit, play_edits, written_lines}
-use Rattle.lq_live.specs.Kept.{at_second}
+use Rattle.lq_live.specs.Downtimes.{Event, after, crosses, depth, due, happen, happen_all, line_if, only_if}
+use Rattle.lq_live.specs.Effects.{AcknowledgeProblem, AddComment, CheckResult, Command, DelComment, DelDowntime, DisableNotifications, DisableNotificationsOf, EnableNotifications, EnableNotificationsOf, NewComment, NewDowntime, RemoveAcknowledgement, ScheduleDowntime, Unknown, acknowledge_in, add_line, alert_line, check_result, command_of, comment_of, downtime_of, effect_of, holds, is_named, is_taken, remove_found, result_of, schedule, take_result, when}
+use Rattle.lq_live.specs.Edits.{line_edits, make_edit, play_edits, settled}
+use Rattle.lq_live.specs.Ids.{HasRisingIds}
+use Rattle.lq_live.specs.Kept.{AllOrdered, at_second}
 use Rattle.lq_live.specs.Order.{after_all, due_lines}
 use Rattle.lq_live.specs.Step.{ready, second_after, step}
-use Rattle.lq_live.specs.StepEdits.{acknowledge_edits_in, advance_edits, cancel_line, check_edits, edits_at, effect_edits, event_edit, known_edits, remove_downtime_edits, result_edits}
-use Rattle.lq_live.specs.declared.edit.DepthLine.{DepthLine}
+use Rattle.lq_live.specs.StepEdits.{acknowledge_edits_in, advance_edits, change_edits, check_edits, edits_at, effect_edits, known_edits, remove_found_edits, result_edits}
 use Rattle.lq_live.specs.declared.edit.Edit.{Edit}
 use Rattle.lq_live.specs.declared.edit.Edit.TheVariants as edit
-use Rattle.lq_live.specs.declared.event.Event.{Event}
-use Rattle.lq_live.proofs.Follows.{Follows, all_follow, filter_none}
+use Rattle.lq_live.proofs.Fates.{due_settled}
 
 pub play_append : (a b : List Edit) (s : State) → play_edits (a ++ b) s ≡ play_edits b (play_edits a s)
 play_append [] b s = refl
 play_append (first ∷ a) b s = play_append a b (make_edit first s)
 
--- ---- a change of the downtimes with its line
-
-lines_same : (moment : ℕ) (word : List ℕ) (object : Object) (old changed : List Downtime) (names : Option LineNames)
-    → written_lines (depth_line_of moment word object names) (depth_in (depth_line_of moment word object names) old) (depth_in (depth_line_of moment word object names) changed)
-    ≡ line_if (crosses (depth object old) (depth object changed)) moment word names
-lines_same moment word object old changed None = refl
-lines_same moment word object old changed (Some names) = refl
-
-change_same : (moment : ℕ) (word : List ℕ) (object : Object) (changed : List Downtime) (s : State)
-    → change_with (depth_line s.base moment word object) changed s ≡ change_downtimes moment word object changed s
-change_same moment word object changed s =
-    ap (λ lines. record s { downtimes = changed; log = s.log ++ lines }) (lines_same moment word object s.downtimes changed (names_of s.base object))
-
-crosses_self : (n : ℕ) → crosses n n ≡ false
-crosses_self n = grind (arith, nat_tests)
-
-no_lines : (line : Option DepthLine) (ds : List Downtime) → written_lines line (depth_in line ds) (depth_in line ds) ≡ []
-no_lines None ds = refl
-no_lines (Some line) ds = rw (crosses_self (depth line.object ds)) refl
-
-unchanged : (line : Option DepthLine) (s : State) → change_with line s.downtimes s ≡ s
-unchanged line s = ap (λ lines. record s { log = s.log ++ lines }) (no_lines line s.downtimes) ∙ ap (λ log. record s { log = log }) (append-nil s.log)
+-- edits of lines add their lines
+pub lines_played : (entries : List LogEntry) (s : State) → play_edits (line_edits entries) s ≡ record s { log = s.log ++ entries }
+lines_played [] s = ap (λ log. record s { log = log }) (sym (append-nil s.log))
+lines_played (entry ∷ entries) s =
+    lines_played entries (add_line entry s) ∙ ap (λ log. record s { log = log }) (append_assoc s.log (entry ∷ []) entries)
 
 -- ---- the events
-
-events_played : (events : List Event) (base : Base) (s : State) → base ≡ s.base → play_edits (map (event_edit base) events) s ≡ happen_all events s
-events_played [] base s is = refl
-events_played (event ∷ events) base s is =
-    ap (play_edits (map (event_edit base) events))
-    (ap (λ base. make_edit (event_edit base event) s) is ∙ change_same event.moment (word_of event) event.object (after event s.downtimes) s)
-    ∙ events_played events base (happen event s) is
 
 happened : (events : List Event) (s : State)
     → happen_all events s ≡ record s { downtimes = after_all events s.downtimes; log = s.log ++ due_lines s.base events s.downtimes }
@@ -75,22 +50,23 @@ happened (event ∷ events) s =
 abbrev pub ready_by : State → Update → State
 ready_by s update =
     let second : ℕ = second_after s update in
-    let events : List Event = due second s.downtimes in
     record s {
       now = second;
-      downtimes = after_all events s.downtimes;
-      log = (s.log ++ due_lines s.base events s.downtimes) ++ written second (form.External update.text) ∷ [];
+      downtimes = settled second s.downtimes;
+      log = (s.log ++ due_lines s.base (due second s.downtimes) s.downtimes) ++ written second (form.External update.text) ∷ [];
     }
 
-pub ready_is : (s : State) (update : Update) → ready s update ≡ ready_by s update
-ready_is s update =
-    ap (add_line (written (second_after s update) (form.External update.text)))
-    (happened (due (second_after s update) s.downtimes) (at_second (second_after s update) s))
+pub ready_is : (s : State) (update : Update) → HasRisingIds s → AllOrdered s.downtimes → ready s update ≡ ready_by s update
+ready_is s update ids order =
+    let second : ℕ = second_after s update in
+    ap (add_line (written second (form.External update.text)))
+    (happened (due second s.downtimes) (record s { now = second }))
+    ∙ ap (λ downtimes. record (ready_by s update) { downtimes = downtimes }) (due_settled second s.next_downtime s.downtimes ids.downtimes order)
 
--- ---- the effects, whose edits are made before the downtimes and the log change
+-- ---- the effects, whose edits are made before the log changes
 
-abbrev moved : State → List Downtime → List LogEntry → State
-moved s ds log = record s { downtimes = ds; log = log }
+abbrev logged : State → List LogEntry → State
+logged s log = record s { log = log }
 
 if_plays : (test : Bool) (edits : List Edit) (changed s : State) → play_edits edits s ≡ changed → play_edits (if test then edits else []) s ≡ (if test then changed else s)
 if_plays true edits changed s is = is
@@ -120,81 +96,75 @@ result_plays object new output None old s = refl
 result_plays object new output (Some names) None s = refl
 result_plays object new output (Some names) (Some old) s = known_plays object names (check_attempt s.base object new old) new output old s
 
-status_same : (object : Object) (s : State) (ds : List Downtime) (log : List LogEntry) → status_of s object ≡ status_of (moved s ds log) object
-status_same (object.Host id) s ds log = refl
-status_same (object.Service id) s ds log = refl
+status_same : (object : Object) (s : State) (log : List LogEntry) → object_status s object ≡ object_status (logged s log) object
+status_same (object.Host id) s log = refl
+status_same (object.Service id) s log = refl
 
-check_plays : (object : Object) (code : ℕ) (output : List ℕ) (s : State) (ds : List Downtime) (log : List LogEntry)
-    → play_edits (check_edits object code output s) (moved s ds log) ≡ check_result object code output (moved s ds log)
-check_plays object code output s ds log =
-    if_plays (nat_le code (most_code object)) (result_edits s.now s.base object (pos code) output (names_of s.base object) (status_of s object)) _ (moved s ds log)
-    (ap (λ old. play_edits (result_edits s.now s.base object (pos code) output (names_of s.base object) old) (moved s ds log)) (status_same object s ds log)
-    ∙ result_plays object (pos code) output (names_of s.base object) (status_of (moved s ds log) object) (moved s ds log))
+check_plays : (object : Object) (code : ℕ) (output : List ℕ) (s : State) (log : List LogEntry)
+    → play_edits (check_edits object code output s) (logged s log) ≡ check_result object code output (logged s log)
+check_plays object code output s log =
+    if_plays (nat_le code (most_code object)) (result_edits s.now s.base object (pos code) output (names_of s.base object) (object_status s object)) _ (logged s log)
+    (ap (λ old. play_edits (result_edits s.now s.base object (pos code) output (names_of s.base object) old) (logged s log)) (status_same object s log)
+    ∙ result_plays object (pos code) output (names_of s.base object) (object_status (logged s log) object) (logged s log))
 
-acknowledge_plays : (old : Option Status) (object : Object) (sticky : ℕ) (new : NewComment) (s : State) (ds : List Downtime) (log : List LogEntry)
-    → play_edits (acknowledge_edits_in old object sticky new s) (moved s ds log) ≡ acknowledge_in old object sticky new (moved s ds log)
-acknowledge_plays None object sticky new s ds log = refl
-acknowledge_plays (Some old) object sticky new s ds log = unless_plays (is_ok old.state) _ _ (moved s ds log) refl
+acknowledge_plays : (old : Option Status) (object : Object) (sticky : ℕ) (new : NewComment) (s : State) (log : List LogEntry)
+    → play_edits (acknowledge_edits_in old object sticky new s) (logged s log) ≡ acknowledge_in old object sticky new (logged s log)
+acknowledge_plays None object sticky new s log = refl
+acknowledge_plays (Some old) object sticky new s log = unless_plays (is_ok old.state) _ _ (logged s log) refl
 
-schedule_plays : (new : NewDowntime) (s : State) (ds : List Downtime) (log : List LogEntry)
-    → play_edits (effect_edits (ScheduleDowntime new) s) (moved s ds log) ≡ schedule new (moved s ds log)
-schedule_plays new s ds log =
-    let line : Option DepthLine = depth_line s.base s.now (codes "STARTED") new.object in
-    alone_plays (holds s.base new.object && is_taken s.now new) (edit.AddDowntime (downtime_of new s) line) _ (moved s ds log)
-    (ap (λ (t : State). record t { next_downtime = s.next_downtime + 1 }) (change_same s.now (codes "STARTED") new.object (ds ++ downtime_of new s ∷ []) (moved s ds log)))
+-- a change of the downtimes behind its line
+change_plays : (change : DowntimeChange) (object : Object) (changed : List Downtime) (edit : Edit) (s : State) (log : List LogEntry)
+    → play_edits (change_edits change object changed s ++ edit ∷ []) (logged s log)
+    ≡ make_edit edit (logged s (log ++ line_if (crosses (depth object s.downtimes) (depth object changed)) s.now change (names_of s.base object)))
+change_plays change object changed edit s log =
+    play_append (change_edits change object changed s) (edit ∷ []) (logged s log)
+    ∙ ap (make_edit edit) (lines_played (line_if (crosses (depth object s.downtimes) (depth object changed)) s.now change (names_of s.base object)) (logged s log))
 
-remove_by : (kind : ObjectKind) (id : ℕ) (s : State) (ds : List Downtime) (log : List LogEntry) (old found : Option Downtime)
-    → find (λ downtime. is_named kind id downtime.id downtime.object) ds ≡ found → Follows old found
-    → change_with (cancel_line old s) (filter (λ downtime. not (is_named kind id downtime.id downtime.object)) ds) (moved s ds log) ≡ remove_found found kind id (moved s ds log)
-remove_by kind id s ds log old None is follows =
-    ap (λ kept. change_with (cancel_line old s) kept (moved s ds log)) (filter_none (λ downtime. is_named kind id downtime.id downtime.object) ds is)
-    ∙ unchanged (cancel_line old s) (moved s ds log)
-remove_by kind id s ds log None (Some found) is follows = absurd follows
-remove_by kind id s ds log (Some old) (Some found) is follows =
-    ap (λ object. change_with (depth_line s.base s.now (codes "CANCELLED") object) (filter (λ downtime. not (is_named kind id downtime.id downtime.object)) ds) (moved s ds log)) (sym follows)
-    ∙ change_same s.now (codes "CANCELLED") found.object _ (moved s ds log)
+schedule_plays : (new : NewDowntime) (s : State) (log : List LogEntry)
+    → play_edits (effect_edits (ScheduleDowntime new) s) (logged s log) ≡ schedule new (logged s log)
+schedule_plays new s log =
+    if_plays (holds s.base new.object && is_taken s.now new) _ _ (logged s log)
+    (change_plays downtime_change.Started new.object (s.downtimes ++ downtime_of new s ∷ []) (edit.AddDowntime (downtime_of new s)) s log)
 
-remove_plays : (kind : ObjectKind) (id : ℕ) (s : State) (ds : List Downtime) (log : List LogEntry)
-    → Follows (find (λ downtime. is_named kind id downtime.id downtime.object) s.downtimes) (find (λ downtime. is_named kind id downtime.id downtime.object) ds)
-    → play_edits (remove_downtime_edits kind id s) (moved s ds log) ≡ remove_downtime kind id (moved s ds log)
-remove_plays kind id s ds log follows =
-    remove_by kind id s ds log (find (λ downtime. is_named kind id downtime.id downtime.object) s.downtimes)
-    (find (λ downtime. is_named kind id downtime.id downtime.object) ds) refl follows
+remove_plays : (found : Option Downtime) (kind : ObjectKind) (id : ℕ) (s : State) (log : List LogEntry)
+    → play_edits (remove_found_edits found kind id s) (logged s log) ≡ remove_found found kind id (logged s log)
+remove_plays None kind id s log = refl
+remove_plays (Some found) kind id s log =
+    change_plays downtime_change.Cancelled found.object (filter (λ downtime. not (is_named kind id downtime.id downtime.object)) s.downtimes) (edit.RemoveDowntime kind id) s log
 
-effect_plays : (command : Command) (s : State) (events : List Event) (log : List LogEntry)
-    → play_edits (effect_edits command s) (moved s (after_all events s.downtimes) log) ≡ effect_of command (moved s (after_all events s.downtimes) log)
-effect_plays (CheckResult object code output) s events log = check_plays object code output s (after_all events s.downtimes) log
-effect_plays (AddComment object new) s events log = alone_plays (holds s.base object) (edit.AddComment (comment_of 1 object new s)) _ _ refl
-effect_plays (DelComment kind id) s events log = refl
-effect_plays (AcknowledgeProblem object sticky new) s events log =
-    acknowledge_plays (status_of s object) object sticky new s (after_all events s.downtimes) log
-    ∙ ap (λ old. acknowledge_in old object sticky new (moved s (after_all events s.downtimes) log)) (status_same object s (after_all events s.downtimes) log)
-effect_plays (RemoveAcknowledgement object) s events log = if_plays (holds s.base object) _ _ _ refl
-effect_plays (ScheduleDowntime new) s events log = schedule_plays new s (after_all events s.downtimes) log
-effect_plays (DelDowntime kind id) s events log =
-    remove_plays kind id s (after_all events s.downtimes) log (all_follow kind id events s.downtimes)
-effect_plays (EnableNotificationsOf object) s events log = alone_plays (holds s.base object) (edit.SetNotifications object 1) _ _ refl
-effect_plays (DisableNotificationsOf object) s events log = alone_plays (holds s.base object) (edit.SetNotifications object 0) _ _ refl
-effect_plays EnableNotifications s events log = refl
-effect_plays DisableNotifications s events log = refl
-effect_plays Unknown s events log = refl
+effect_plays : (command : Command) (s : State) (log : List LogEntry) → play_edits (effect_edits command s) (logged s log) ≡ effect_of command (logged s log)
+effect_plays (CheckResult object code output) s log = check_plays object code output s log
+effect_plays (AddComment object new) s log = alone_plays (holds s.base object) (edit.AddComment (comment_of 1 object new s)) _ _ refl
+effect_plays (DelComment kind id) s log = refl
+effect_plays (AcknowledgeProblem object sticky new) s log =
+    acknowledge_plays (object_status s object) object sticky new s log
+    ∙ ap (λ old. acknowledge_in old object sticky new (logged s log)) (status_same object s log)
+effect_plays (RemoveAcknowledgement object) s log = if_plays (holds s.base object) _ _ _ refl
+effect_plays (ScheduleDowntime new) s log = schedule_plays new s log
+effect_plays (DelDowntime kind id) s log = remove_plays (find (λ downtime. is_named kind id downtime.id downtime.object) s.downtimes) kind id s log
+effect_plays (EnableNotificationsOf object) s log = alone_plays (holds s.base object) (edit.SetNotifications object 1) _ _ refl
+effect_plays (DisableNotificationsOf object) s log = alone_plays (holds s.base object) (edit.SetNotifications object 0) _ _ refl
+effect_plays EnableNotifications s log = refl
+effect_plays DisableNotifications s log = refl
+effect_plays Unknown s log = refl
 
 -- ---- the step
 
 -- the step, from the edits of the effect
-pub step_by : (s : State) (update : Update) → play_edits (effect_edits (command_of update.act) (at_second (second_after s update) s)) (ready_by s update) ≡ step s update
-step_by s update =
-    effect_plays (command_of update.act) (at_second (second_after s update) s) (due (second_after s update) s.downtimes) (ready_by s update).log
-    ∙ ap (effect_of (command_of update.act)) (sym (ready_is s update))
+pub step_by : (s : State) (update : Update) → HasRisingIds s → AllOrdered s.downtimes
+    → play_edits (effect_edits (command_of update.act) (at_second (second_after s update) s)) (ready_by s update) ≡ step s update
+step_by s update ids order =
+    effect_plays (command_of update.act) (at_second (second_after s update) s) (ready_by s update).log
+    ∙ ap (effect_of (command_of update.act)) (sym (ready_is s update ids order))
 
-pub edits_played : (s : State) (update : Update) → play_edits (edits_at (second_after s update) s update) s ≡ step s update
+pub edits_played : (s : State) (update : Update) → HasRisingIds s → AllOrdered s.downtimes
+    → play_edits (edits_at (second_after s update) s update) s ≡ step s update
 unfolding advance_edits
-edits_played s update =
+edits_played s update ids order =
     let second : ℕ = second_after s update in
-    let events : List Event = due second s.downtimes in
+    let lines : List LogEntry = due_lines s.base (due second s.downtimes) s.downtimes in
     let line : Edit = edit.Line (written second (form.External update.text)) in
     let changes : List Edit = effect_edits (command_of update.act) (at_second second s) in
-    play_append (map (event_edit s.base) events) (line ∷ changes) (at_second second s)
-    ∙ ap (play_edits (line ∷ changes)) (events_played events s.base (at_second second s) refl)
-    ∙ ap (play_edits changes) (ready_is s update)
-    ∙ step_by s update
+    play_append (line_edits lines) (line ∷ changes) (at_second second s)
+    ∙ ap (play_edits (line ∷ changes)) (lines_played lines (at_second second s))
+    ∙ step_by s update ids order

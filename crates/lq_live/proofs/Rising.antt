@@ -1,18 +1,19 @@
 -- The events that are due stand in order of their moments, and so do their lines.
-use Rattle.std.proofs.Common.{◌≡◌, ◌∙◌, ℕ, ◌+◌, ◌<◌, ◌≤◌, ◌&&◌, nat_le, not, Bool, true, false, Option, Some, None, List, [], ◌∷◌, ◌++◌, map, flat_map, refl, ap, arith, is_gt}
+use Rattle.std.proofs.Common.{◌≡◌, ◌∙◌, ℕ, ◌+◌, ◌<◌, ◌≤◌, ◌&&◌, nat_le, not, Bool, true, false, Option, Some, None, List, [], ◌∷◌, ◌++◌, flat_map, refl, ap, arith, is_gt}
 use Rattle.std.proofs.lemmas.Bool.{false≢true}
 use Rattle.std.proofs.lemmas.Bool.Decides.{nat_tests}
 use Rattle.lq_records.specs.declared.base.Base.{Base}
 use Rattle.lq_events.specs.declared.log_entry.LogEntry.{LogEntry}
 use Rattle.lq_events.specs.declared.status.Downtime.{Downtime}
 use Rattle.lq_log.specs.Book.{time_limit}
+use Rattle.lq_log.specs.declared.written.DowntimeChange.{DowntimeChange}
+use Rattle.lq_log.specs.declared.written.Form.TheVariants as form
+use Rattle.lq_log.proofs.LineLemmas.{written_of_line}
 use Rattle.lq_live.specs.State.{LineNames, names_of}
-use Rattle.lq_live.specs.Downtimes.{after, crosses, depth, downtime_line, due, end_of, event_order, line_if, moments, only_if, put_in, sorted, start_of, word_of}
-use Rattle.lq_live.specs.Edits.{depth_line_of, line_in}
-use Rattle.lq_live.specs.StepEdits.{event_edit}
-use Rattle.lq_live.specs.Order.{LinesAt, LinesUpTo, Rising, Within, due_lines, event_lines}
+use Rattle.lq_live.specs.Downtimes.{Event, after, change_of, crosses, depth, downtime_line, due, end_of, event_order, line_if, moments, only_if, put_in, sorted, start_of}
+use Rattle.lq_live.specs.Edits.{line_edits, line_in}
+use Rattle.lq_live.specs.Order.{LinesUpTo, Rising, Within, due_lines, event_lines}
 use Rattle.lq_live.specs.Kept.{AllFrom, IsFrom, MayFollow, Timely, time_behind}
-use Rattle.lq_live.specs.declared.event.Event.{Event}
 use Rattle.lq_live.specs.declared.edit.Edit.{Edit}
 use Rattle.lq_live.specs.declared.edit.Edit.TheVariants as edit
 use Rattle.lq_live.proofs.DueEvents.{event_total, precedes}
@@ -76,49 +77,48 @@ due_rising low high ds all = sorted_rising low high (flat_map (moments high) ds)
 
 -- ---- their lines
 
-line_if_at : (test : Bool) (moment : ℕ) (word : List ℕ) (names : Option LineNames) → LinesAt moment (line_if test moment word names)
-unfolding downtime_line
-line_if_at test moment word None = tt
-line_if_at true moment word (Some names) = (refl, tt)
-line_if_at false moment word (Some names) = tt
-
 later_by : (low high : ℕ) (line : Option LogEntry) (edits : List Edit) → low ≤ high → MayFollow high line → Timely (time_behind high line) edits
     → (Timely high edits → Timely low edits) → MayFollow low line × Timely (time_behind low line) edits
 later_by low high None edits above may timely rest = (tt, rest timely)
-later_by low high (Some entry) edits above may timely rest = ((omega (arith, above, may.0), may.1), timely)
+later_by low high (Some entry) edits above may timely rest = ((omega (arith, above, may.0), may.1, may.2), timely)
 
 pub timely_later : (low high : ℕ) (edits : List Edit) → low ≤ high → Timely high edits → Timely low edits
 timely_later low high [] above timely = tt
 timely_later low high (edit ∷ edits) above timely =
     later_by low high (line_in edit) edits above timely.0 timely.1 (λ rest. timely_later low high edits above rest)
 
-moment_timely : (low : ℕ) (event : Event) (names : Option LineNames) (rest : List Edit) → low ≤ event.moment → event.moment < time_limit
-    → Timely event.moment rest → Timely low (edit.Moment event (depth_line_of event.moment (word_of event) event.object names) ∷ rest)
+moment_timely : (low moment : ℕ) (test : Bool) (change : DowntimeChange) (names : Option LineNames) (rest : List Edit) → low ≤ moment → moment < time_limit
+    → Timely moment rest → Timely low (line_edits (line_if test moment change names) ++ rest)
 unfolding downtime_line
-moment_timely low event None rest above below timely = (tt, timely_later low event.moment rest above timely)
-moment_timely low event (Some names) rest above below timely = ((above, below), timely)
+moment_timely low moment test change None rest above below timely = timely_later low moment rest above timely
+moment_timely low moment false change (Some names) rest above below timely = timely_later low moment rest above timely
+moment_timely low moment true change (Some names) rest above below timely =
+    ((above, below, written_of_line moment (form.Downtime names.host names.service change) below), timely)
 
--- the events' edits, and others behind them
-pub due_timely : (low high : ℕ) (base : Base) (events : List Event) (rest : List Edit) → Rising low high events → low ≤ high → high < time_limit
-    → Timely high rest → Timely low (map (event_edit base) events ++ rest)
-due_timely low high base [] rest rising above below timely = timely_later low high rest above timely
-due_timely low high base (event ∷ events) rest rising above below timely =
-    moment_timely low event (names_of base event.object) (map (event_edit base) events ++ rest) rising.0 (omega (arith, rising.1, below))
-    (due_timely event.moment high base events rest rising.2 rising.1 below timely)
+lines_append : (a b : List LogEntry) (rest : List Edit) → line_edits (a ++ b) ++ rest ≡ line_edits a ++ (line_edits b ++ rest)
+lines_append [] b rest = refl
+lines_append (entry ∷ a) b rest = ap (λ edits. edit.Line entry ∷ edits) (lines_append a b rest)
+
+-- the lines of events, and others behind them
+pub due_timely : (low high : ℕ) (base : Base) (events : List Event) (ds : List Downtime) (rest : List Edit) → Rising low high events → low ≤ high → high < time_limit
+    → Timely high rest → Timely low (line_edits (due_lines base events ds) ++ rest)
+due_timely low high base [] ds rest rising above below timely = timely_later low high rest above timely
+due_timely low high base (event ∷ events) ds rest rising above below timely =
+    rw (lines_append (event_lines base event ds) (due_lines base events (after event ds)) rest)
+    (moment_timely low event.moment (crosses (depth event.object ds) (depth event.object (after event ds))) (change_of event) (names_of base event.object)
+    (line_edits (due_lines base events (after event ds)) ++ rest) rising.0 (omega (arith, rising.1, below))
+    (due_timely event.moment high base events (after event ds) rest rising.2 rising.1 below timely))
 
 -- no line of theirs is past the second
-up_to_append : (second : ℕ) (a b : List LogEntry) → LinesUpTo second a → LinesUpTo second b → LinesUpTo second (a ++ b)
-up_to_append second [] b all more = more
-up_to_append second (entry ∷ a) b all more = (all.0, up_to_append second a b all.1 more)
-
-at_up_to : (second moment : ℕ) (entries : List LogEntry) → LinesAt moment entries → moment ≤ second → LinesUpTo second entries
-at_up_to second moment [] all below = tt
-at_up_to second moment (entry ∷ entries) all below = (rw all.0 below, at_up_to second moment entries all.1 below)
+line_up_to : (second moment : ℕ) (test : Bool) (change : DowntimeChange) (names : Option LineNames) (rest : List LogEntry) → moment ≤ second → LinesUpTo second rest
+    → LinesUpTo second (line_if test moment change names ++ rest)
+unfolding downtime_line
+line_up_to second moment test change None rest below all = all
+line_up_to second moment false change (Some names) rest below all = all
+line_up_to second moment true change (Some names) rest below all = (below, all)
 
 pub due_lines_up_to : (low high : ℕ) (base : Base) (events : List Event) (ds : List Downtime) → Rising low high events → LinesUpTo high (due_lines base events ds)
 due_lines_up_to low high base [] ds rising = tt
 due_lines_up_to low high base (event ∷ events) ds rising =
-    up_to_append high (event_lines base event ds) (due_lines base events (after event ds))
-    (at_up_to high event.moment (event_lines base event ds)
-    (line_if_at (crosses (depth event.object ds) (depth event.object (after event ds))) event.moment (word_of event) (names_of base event.object)) rising.1)
-    (due_lines_up_to event.moment high base events (after event ds) rising.2)
+    line_up_to high event.moment (crosses (depth event.object ds) (depth event.object (after event ds))) (change_of event) (names_of base event.object)
+    (due_lines base events (after event ds)) rising.1 (due_lines_up_to event.moment high base events (after event ds) rising.2)

@@ -1,5 +1,5 @@
 -- The one order that a list has where items that tie are equal.
-use Rattle.std.proofs.Common.{◌≡◌, ℕ, suc, Bool, true, false, cond, List, [], ◌∷◌, refl, sym, ap, ap₂, ◌∙◌, arith, Ordering, Less, Equal, Greater, is_lt, is_gt, true≢false, IsPermutation, IsSorted, add-one}
+use Rattle.std.proofs.Common.{◌≡◌, ℕ, suc, Bool, true, false, cond, List, [], ◌∷◌, filter, refl, sym, ap, ap₂, ◌∙◌, arith, Ordering, Less, Equal, Greater, is_lt, is_gt, true≢false, IsPermutation, IsSorted, add-one}
 use Rattle.std.specs.List.{AllByRecursion, sum_by}
 use Rattle.std.specs.Cmp.{IsTotalOrder}
 use Rattle.std.specs.Ordering.{ordering_reverse}
@@ -60,6 +60,43 @@ module _ {X : Type 0} (order : X → X → Ordering) (total : IsTotalOrder order
   pub same_sorted : (xs : List X) → IsPermutation xs (sorted order xs)
   same_sorted [] = IsPermutation-refl []
   same_sorted (x ∷ xs) = IsPermutation-trans _ _ _ (IsPermutation-cons x _ _ (same_sorted xs)) (same_put x (sorted order xs))
+
+  -- ---- what passes a test, in order
+
+  all_filter : (P : X → Type 0) (test : X → Bool) (xs : List X) → AllByRecursion P xs → AllByRecursion P (filter test xs)
+  all_filter P test [] all = tt
+  all_filter P test (x ∷ xs) all = elim (test x) as (λ b. AllByRecursion P (cond b (x ∷ filter test xs) (filter test xs))) [ true ↦ (all.0, all_filter P test xs all.1) | false ↦ all_filter P test xs all.1 ]
+
+  put_first : (item : X) (xs : List X) → AllByRecursion (AtMost item) xs → put_in order item xs ≡ item ∷ xs
+  put_first item [] all = refl
+  put_first item (x ∷ xs) all = rw all.0 refl
+
+  put_kept : (test : X → Bool) (item : X) (xs : List X) → Ascending xs
+      → filter test (put_in order item xs) ≡ cond (test item) (put_in order item (filter test xs)) (filter test xs)
+  put_kept test item [] up = refl
+  put_kept test item (x ∷ xs) up = by (is_gt (order item x)) (test item) (test x) refl refl refl (put_kept test item xs up.1)
+    where
+      by : (above passes first : Bool) → is_gt (order item x) ≡ above → test item ≡ passes → test x ≡ first
+          → filter test (put_in order item xs) ≡ cond (test item) (put_in order item (filter test xs)) (filter test xs)
+          → filter test (put_in order item (x ∷ xs)) ≡ cond (test item) (put_in order item (filter test (x ∷ xs))) (filter test (x ∷ xs))
+      by true true true above passes first rest = rw (above, passes, first, above) (ap (λ ys. x ∷ ys) (rw passes at rest))
+      by true true false above passes first rest = rw (above, passes, first) (rw passes at rest)
+      by true false true above passes first rest = rw (above, passes, first) (ap (λ ys. x ∷ ys) (rw passes at rest))
+      by true false false above passes first rest = rw (above, passes, first) (rw passes at rest)
+      by false true first above passes _ rest =
+          rw (above, passes)
+          (sym (put_first item (filter test (x ∷ xs))
+          (all_filter (AtMost item) test (x ∷ xs) (above, all_weaker (AtMost x) (AtMost item) (λ z later. upto total item x z above later) xs up.0))))
+      by false false first above passes _ rest = rw (above, passes) refl
+
+  pub sorted_kept : (test : X → Bool) (xs : List X) → filter test (sorted order xs) ≡ sorted order (filter test xs)
+  sorted_kept test [] = refl
+  sorted_kept test (x ∷ xs) = put_kept test x (sorted order xs) (ascending_sorted xs) ∙ by (test x) refl (sorted_kept test xs)
+    where
+      by : (passes : Bool) → test x ≡ passes → filter test (sorted order xs) ≡ sorted order (filter test xs)
+          → cond (test x) (put_in order x (filter test (sorted order xs))) (filter test (sorted order xs)) ≡ sorted order (filter test (x ∷ xs))
+      by true is rest = rw is (ap (put_in order x) rest)
+      by false is rest = rw is rest
 
   -- ---- lists in order, by places
 

@@ -1,5 +1,5 @@
 -- The moments at which downtimes begin and end, and the lines that are written then.
-use Rattle.std.specs.Prelude.{ℕ, ◌≡◌, ◌≤◌, ◌==◌, ◌&&◌, ◌||◌, not, nat_le, nat_lt, Bool, true, false, Option, Some, None, List, [], ◌∷◌, ◌++◌, length, map, filter, flat_map, codes, if◌then◌else◌}
+use Rattle.std.specs.Prelude.{ℕ, ◌≡◌, ◌≤◌, ◌==◌, ◌&&◌, ◌||◌, not, nat_le, nat_lt, Bool, true, false, Option, Some, None, List, [], ◌∷◌, ◌++◌, length, map, filter, flat_map, if◌then◌else◌}
 use Rattle.std.specs.List.{AllAdjacentBelow}
 use Rattle.std.specs.List.Sorted.{IsPermutation}
 use Rattle.std.specs.declared.cmp.Ordering.{Ordering}
@@ -7,16 +7,24 @@ use Rattle.std.specs.Ordering.{bool_cmp, is_gt, nat_cmp, ordering_then}
 use Rattle.lq_events.specs.declared.log_entry.LogEntry.{LogEntry}
 use Rattle.lq_events.specs.declared.status.Downtime.{Downtime}
 use Rattle.lq_log.specs.Written.{written}
+use Rattle.lq_log.specs.declared.written.DowntimeChange.{DowntimeChange}
+use Rattle.lq_log.specs.declared.written.DowntimeChange.TheVariants as downtime_change
 use Rattle.lq_log.specs.declared.written.Form.TheVariants as form
 use Rattle.lq_records.specs.declared.object.Object.{Object}
 use Rattle.lq_records.specs.Object.{is_same_object}
 use Rattle.lq_live.specs.State.{LineNames, State, names_of}
-use Rattle.lq_live.specs.declared.event.Event.{Event}
 
 abbrev pub only_if : {X : Type 0} → Bool → X → List X
 only_if test item = if test then item ∷ [] else []
 
 -- ---- what is due
+
+-- a moment at which a downtime begins or ends: which one it is, and what it is about
+pub record Event : Type 0 where
+  pub moment : ℕ
+  pub starts : Bool
+  pub id : ℕ
+  pub object : Object
 
 abbrev pub start_of : Downtime → Event
 start_of downtime = record {
@@ -99,34 +107,34 @@ abbrev pub crosses : ℕ → ℕ → Bool
 crosses before later = (before == 0 && nat_lt 0 later) || (nat_lt 0 before && later == 0)
 
 -- a line says that an object's downtime has `STARTED`, `STOPPED` or been `CANCELLED`
-unfoldable pub downtime_line : ℕ → List ℕ → LineNames → LogEntry
-downtime_line moment word names =
-    written moment (form.Downtime names.host names.service word)
+unfoldable pub downtime_line : ℕ → DowntimeChange → LineNames → LogEntry
+downtime_line moment change names =
+    written moment (form.Downtime names.host names.service change)
 
-abbrev pub line_if : Bool → ℕ → List ℕ → Option LineNames → List LogEntry
-line_if test moment word None = []
-line_if test moment word (Some names) = only_if test (downtime_line moment word names)
+abbrev pub line_if : Bool → ℕ → DowntimeChange → Option LineNames → List LogEntry
+line_if test moment change None = []
+line_if test moment change (Some names) = only_if test (downtime_line moment change names)
 
 -- The downtimes become others at a moment, at which those of one object change. A line is written
 -- where the number of its active ones leaves 0, or comes to it.
-abbrev pub change_downtimes : ℕ → List ℕ → Object → List Downtime → State → State
-change_downtimes moment word object changed s = record s {
+abbrev pub change_downtimes : ℕ → DowntimeChange → Object → List Downtime → State → State
+change_downtimes moment change object changed s = record s {
   downtimes = changed;
   log =
       s.log
-      ++ line_if (crosses (depth object s.downtimes) (depth object changed)) moment word
+      ++ line_if (crosses (depth object s.downtimes) (depth object changed)) moment change
       (names_of s.base object);
 }
 
 -- ---- the events happen
 
-abbrev pub word_of : Event → List ℕ
-word_of event = if event.starts then codes "STARTED" else codes "STOPPED"
+abbrev pub change_of : Event → DowntimeChange
+change_of event = if event.starts then downtime_change.Started else downtime_change.Stopped
 
 -- the line of an event carries its moment
 abbrev pub happen : Event → State → State
 happen event s =
-    change_downtimes event.moment (word_of event) event.object (after event s.downtimes) s
+    change_downtimes event.moment (change_of event) event.object (after event s.downtimes) s
 
 abbrev pub happen_all : List Event → State → State
 happen_all [] s = s

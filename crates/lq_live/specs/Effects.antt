@@ -1,5 +1,5 @@
 -- What each external command changes in a state.
-use Rattle.std.specs.Prelude.{ℕ, ℤ, pos, ◌+◌, ◌==◌, ◌&&◌, not, nat_lt, nat_le, Bool, true, false, Option, Some, None, List, [], ◌∷◌, ◌++◌, length, filter, codes, if◌then◌else◌}
+use Rattle.std.specs.Prelude.{ℕ, ℤ, pos, ◌+◌, ◌==◌, ◌&&◌, not, nat_lt, nat_le, Bool, true, false, Option, Some, None, List, [], ◌∷◌, ◌++◌, length, filter, if◌then◌else◌}
 use Rattle.std.specs.List.{before_first, find}
 use Rattle.lq_records.specs.declared.base.Base.{Base}
 use Rattle.lq_events.specs.declared.log_entry.LogEntry.{LogEntry}
@@ -14,8 +14,9 @@ use Rattle.lq_records.specs.Object.{is_same_kind, is_same_object, kind_of}
 use Rattle.lq_events.specs.declared.update.Act.{Act}
 use Rattle.lq_events.specs.declared.update.Act.TheVariants as act
 use Rattle.lq_log.specs.Written.{written}
+use Rattle.lq_log.specs.declared.written.DowntimeChange.TheVariants as downtime_change
 use Rattle.lq_log.specs.declared.written.Form.TheVariants as form
-use Rattle.lq_live.specs.State.{State, LineNames, names_of, status_of, with_status}
+use Rattle.lq_live.specs.State.{State, LineNames, names_of, object_status, with_status}
 use Rattle.lq_live.specs.Results.{Attempt, check_attempt, most_code, differs, ends_acknowledgement, status_after, is_ok, is_bar}
 use Rattle.lq_live.specs.Downtimes.{change_downtimes}
 
@@ -89,7 +90,7 @@ acknowledge_in (Some old) object sticky given s =
 
 -- only where the state isn't 0
 abbrev pub acknowledge : Object → ℕ → NewComment → State → State
-acknowledge object sticky given s = acknowledge_in (status_of s object) object sticky given s
+acknowledge object sticky given s = acknowledge_in (object_status s object) object sticky given s
 
 abbrev pub remove_acknowledgement : Object → State → State
 remove_acknowledgement object s =
@@ -121,7 +122,7 @@ result_of object new output (Some names) (Some old) s =
 abbrev pub check_result : Object → ℕ → List ℕ → State → State
 check_result object code output s =
     if nat_le code (most_code object)
-    then result_of object (pos code) output (names_of s.base object) (status_of s object) s
+    then result_of object (pos code) output (names_of s.base object) (object_status s object) s
     else s
 
 -- ---- downtimes
@@ -159,7 +160,7 @@ downtime_of asked s = record {
 
 abbrev pub add_downtime : Downtime → State → State
 add_downtime downtime s =
-    change_downtimes s.now (codes "STARTED") downtime.object (s.downtimes ++ downtime ∷ [])
+    change_downtimes s.now downtime_change.Started downtime.object (s.downtimes ++ downtime ∷ [])
     (record s { next_downtime = s.next_downtime + 1 })
 
 abbrev pub schedule : NewDowntime → State → State
@@ -169,7 +170,7 @@ schedule asked s =
 abbrev pub remove_found : Option Downtime → ObjectKind → ℕ → State → State
 remove_found None kind id s = s
 remove_found (Some found) kind id s =
-    change_downtimes s.now (codes "CANCELLED") found.object
+    change_downtimes s.now downtime_change.Cancelled found.object
     (filter (λ downtime. not (is_named kind id downtime.id downtime.object)) s.downtimes)
     s
 

@@ -5,8 +5,9 @@ use Rattle.lq_events.specs.declared.log_entry.LogEntry.{LogEntry}
 use Rattle.lq_events.specs.declared.status.Downtime.{Downtime}
 use Rattle.lq_records.specs.Sound.{IsSound}
 use Rattle.lq_log.specs.Book.{last_time, time_limit}
+use Rattle.lq_log.specs.Entries.{IsOfLine}
 use Rattle.lq_live.specs.State.{State}
-use Rattle.lq_live.specs.Edits.{line_in}
+use Rattle.lq_live.specs.Edits.{line_in, settled}
 use Rattle.lq_live.specs.Ids.{HasRisingIds}
 use Rattle.lq_live.specs.declared.live_state.LiveState.{LiveState}
 use Rattle.lq_live.specs.declared.edit.Edit.{Edit}
@@ -25,9 +26,9 @@ state_of live = record {
   notifications = live.notifications;
 }
 
--- a state whose second has moved
+-- a state whose second has moved, and in which all that is due then has happened
 abbrev pub at_second : ℕ → State → State
-at_second second s = record s { now = second }
+at_second second s = record s { now = second; downtimes = settled second s.downtimes }
 
 abbrev pub state_at : ℕ → LiveState → State
 state_at second live = at_second second (state_of live)
@@ -93,16 +94,16 @@ pub record KeepsAll (live : LiveState) (updates : ℕ) : Type 0 where
 
 -- ---- edits
 
--- a line may follow a last one: it is no earlier, and can be written
+-- an entry may follow a last one: it is no earlier, its second can be written, and a line gives it
 abbrev pub MayFollow : ℕ → Option LogEntry → Type 0
 MayFollow last None = Unit {0}
-MayFollow last (Some entry) = (last ≤ entry.time) × (entry.time < time_limit)
+MayFollow last (Some entry) = (last ≤ entry.time) × (entry.time < time_limit) × IsOfLine entry
 
 abbrev pub time_behind : ℕ → Option LogEntry → ℕ
 time_behind last None = last
 time_behind last (Some entry) = entry.time
 
--- the lines that edits may write are in order of time after a last one
+-- the lines that edits write are in order of time after a last one
 abbrev pub Timely : ℕ → List Edit → Type 0
 Timely last [] = Unit {0}
 Timely last (edit ∷ edits) =

@@ -9,3 +9,4 @@ pub mod Kept
 pub mod Edits
 pub mod StepEdits
 pub mod Order
+pub mod Depths

@@ -1,13 +1,14 @@
 -- How the code works: in what order the events and the lines of a step stand.
-use Rattle.std.specs.Prelude.{◌≡◌, ℕ, ◌+◌, ◌<◌, ◌≤◌, ◌⊎◌, Bool, true, false, Option, Some, None, List, [], ◌∷◌, ◌++◌}
+use Rattle.std.specs.Prelude.{◌≡◌, ℕ, ◌+◌, ◌<◌, ◌≤◌, true, Option, Some, None, List, [], ◌∷◌, ◌++◌}
 use Rattle.lq_records.specs.declared.base.Base.{Base}
 use Rattle.lq_events.specs.declared.log_entry.LogEntry.{LogEntry}
 use Rattle.lq_events.specs.declared.status.Downtime.{Downtime}
+use Rattle.lq_log.specs.Book.{time_limit}
+use Rattle.lq_log.specs.Entries.{IsOfLine}
 use Rattle.lq_live.specs.State.{names_of}
-use Rattle.lq_live.specs.Downtimes.{after, crosses, depth, line_if, word_of}
+use Rattle.lq_live.specs.Downtimes.{Event, after, crosses, depth, line_if, change_of}
 use Rattle.lq_live.specs.Edits.{line_in}
 use Rattle.lq_live.specs.Kept.{IsFrom}
-use Rattle.lq_live.specs.declared.event.Event.{Event}
 use Rattle.lq_live.specs.declared.edit.Edit.{Edit}
 use Rattle.lq_live.specs.declared.edit.Edit.TheVariants as edit
 
@@ -20,7 +21,7 @@ after_all (event ∷ events) downtimes = after_all events (after event downtimes
 abbrev pub event_lines : Base → Event → List Downtime → List LogEntry
 event_lines base event downtimes =
     line_if (crosses (depth event.object downtimes) (depth event.object (after event downtimes)))
-    event.moment (word_of event) (names_of base event.object)
+    event.moment (change_of event) (names_of base event.object)
 
 abbrev pub due_lines : Base → List Event → List Downtime → List LogEntry
 due_lines base [] downtimes = []
@@ -41,11 +42,6 @@ Rising low high [] = Unit {0}
 Rising low high (event ∷ events) =
     (low ≤ event.moment) × (event.moment ≤ high) × Rising event.moment high events
 
--- each line is of a second
-abbrev pub LinesAt : ℕ → List LogEntry → Type 0
-LinesAt second [] = Unit {0}
-LinesAt second (entry ∷ entries) = (entry.time ≡ second) × LinesAt second entries
-
 -- no line is past a second
 abbrev pub LinesUpTo : ℕ → List LogEntry → Type 0
 LinesUpTo second [] = Unit {0}
@@ -58,16 +54,17 @@ pub record IsNew (second : ℕ) (downtime : Downtime) : Type 0 where
   pub ahead : IsFrom (second + 1) downtime
   pub begun : downtime.active ≡ true → downtime.start ≤ second
 
+-- an entry of a second, which a line gives where that second can be written
 abbrev pub LineAt : ℕ → Option LogEntry → Type 0
 LineAt second None = Unit {0}
-LineAt second (Some entry) = entry.time ≡ second
+LineAt second (Some entry) =
+    (entry.time ≡ second) × (entry.time < time_limit → IsOfLine entry)
 
 -- what an edit of a command's effect does besides its line: its downtime is new, and it moves no
 -- time
 abbrev pub ChangeAt : ℕ → Edit → Type 0
-ChangeAt second (edit.AddDowntime downtime line) = IsNew second downtime
+ChangeAt second (edit.AddDowntime downtime) = IsNew second downtime
 ChangeAt second (edit.Now later) = ⊥
-ChangeAt second (edit.Moment event line) = ⊥
 ChangeAt second _ = Unit {0}
 
 -- an edit of a command's effect: its line is of that second
@@ -81,25 +78,9 @@ EditsAt second (edit ∷ edits) = EditAt second edit × EditsAt second edits
 -- how many comments and downtimes edits add
 abbrev pub additions : Edit → ℕ
 additions (edit.AddComment comment) = 1
-additions (edit.AddDowntime downtime line) = 1
+additions (edit.AddDowntime downtime) = 1
 additions _ = 0
 
 abbrev pub all_additions : List Edit → ℕ
 all_additions [] = 0
 all_additions (edit ∷ edits) = additions edit + all_additions edits
-
--- ---- what is due of each downtime is among the events
-
-abbrev pub HasEvent : Bool → ℕ → List Event → Type 0
-HasEvent starts id [] = ⊥
-HasEvent starts id (event ∷ events) =
-    ((event.starts ≡ starts) × (event.id ≡ id)) ⊎ HasEvent starts id events
-
-pub record IsCovered (second : ℕ) (events : List Event) (downtime : Downtime) : Type 0 where
-  pub end : downtime.end ≤ second → HasEvent false downtime.id events
-  pub start : downtime.active ≡ false → downtime.start ≤ second → HasEvent true downtime.id events
-
-abbrev pub AllCovered : ℕ → List Event → List Downtime → Type 0
-AllCovered second events [] = Unit {0}
-AllCovered second events (downtime ∷ downtimes) =
-    IsCovered second events downtime × AllCovered second events downtimes

@@ -68,9 +68,9 @@ opened base = record {
 -- ---- one object
 
 -- the status of an object
-abbrev pub status_of : State → Object → Option Status
-status_of s (object.Host id) = slice_get s.host_status id.0
-status_of s (object.Service id) = slice_get s.service_status id.0
+abbrev pub object_status : State → Object → Option Status
+object_status s (object.Host id) = slice_get s.host_status id.0
+object_status s (object.Service id) = slice_get s.service_status id.0
 
 -- the item at a place changed
 abbrev pub changed_at : {X : Type 0} → (X → X) → ℕ → List X → List X
@@ -92,13 +92,13 @@ pub record LineNames : Type 0 where
 abbrev pub line_names : List ℕ → List ℕ → LineNames
 line_names host service = record { host = host; service = service }
 
-abbrev pub host_name : Base → ℕ → Option (List ℕ)
-host_name base place = option_map (λ host. host.host_name) (slice_get base.hosts place)
+abbrev pub host_in_line : Base → ℕ → Option (List ℕ)
+host_in_line base place = option_map (λ host. host.host_name) (slice_get base.hosts place)
 
 -- None where the base doesn't hold the object
 abbrev pub names_of : Base → Object → Option LineNames
-names_of base (object.Host id) = option_map (λ name. line_names name []) (host_name base id.0)
+names_of base (object.Host id) = option_map (λ name. line_names name []) (host_in_line base id.0)
 names_of base (object.Service id) = option_and_then
     (λ service. option_map (λ name. line_names name service.service_description)
-    (host_name base service.host.0))
+    (host_in_line base service.host.0))
     (slice_get base.services id.0)

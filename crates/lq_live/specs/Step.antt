@@ -8,12 +8,12 @@ use Rattle.lq_live.specs.Downtimes.{due, happen_all}
 use Rattle.lq_live.specs.Effects.{add_line, effect}
 
 -- a second past the last one that can be written counts as the last one
-abbrev pub second_of : Update → ℕ
-second_of update = min update.time 999_999_999_999
+abbrev pub second_written : Update → ℕ
+second_written update = min update.time 999_999_999_999
 
 -- the present second never goes back
 abbrev pub second_after : State → Update → ℕ
-second_after s update = max s.now (second_of update)
+second_after s update = max s.now (second_written update)
 
 -- the present second becomes another, and the downtimes that are due then begin and end
 abbrev pub advance_to : ℕ → State → State

@@ -1,7 +1,6 @@
 -- How the code works: the edits of a step, which are made from the state before it.
-use Rattle.std.specs.Prelude.{◌≡◌, ℕ, ℤ, pos, ◌==◌, ◌&&◌, nat_le, Bool, true, false, Option, Some, None, List, [], ◌∷◌, ◌++◌, map, codes, if◌then◌else◌}
+use Rattle.std.specs.Prelude.{◌≡◌, ℕ, ℤ, pos, ◌==◌, ◌&&◌, nat_le, Bool, true, false, Option, Some, None, List, [], ◌∷◌, ◌++◌, filter, not, if◌then◌else◌}
 use Rattle.std.specs.List.{find}
-use Rattle.std.specs.Option.{option_and_then}
 use Rattle.lq_records.specs.declared.base.Base.{Base}
 use Rattle.lq_records.specs.declared.object.Object.{Object}
 use Rattle.lq_records.specs.declared.object.ObjectKind.{ObjectKind}
@@ -11,19 +10,20 @@ use Rattle.lq_events.specs.declared.update.Act.{Act}
 use Rattle.lq_events.specs.declared.update.Act.TheVariants as act
 use Rattle.lq_events.specs.declared.update.Update.{Update}
 use Rattle.lq_log.specs.Written.{written}
+use Rattle.lq_log.specs.declared.written.DowntimeChange.{DowntimeChange}
+use Rattle.lq_log.specs.declared.written.DowntimeChange.TheVariants as downtime_change
 use Rattle.lq_log.specs.declared.written.Form.TheVariants as form
-use Rattle.lq_live.specs.State.{LineNames, State, names_of, status_of}
+use Rattle.lq_live.specs.State.{LineNames, State, names_of, object_status}
 use Rattle.lq_live.specs.Results.{Attempt, check_attempt, most_code, differs, ends_acknowledgement, is_ok, status_after}
-use Rattle.lq_live.specs.Downtimes.{due, only_if, word_of}
+use Rattle.lq_live.specs.Downtimes.{crosses, depth, due, line_if, only_if}
 use Rattle.lq_live.specs.Effects.{AcknowledgeProblem, AddComment, CheckResult, Command, DelComment, DelDowntime, DisableNotifications, DisableNotificationsOf, EnableNotifications, EnableNotificationsOf, NewComment, NewDowntime, RemoveAcknowledgement, ScheduleDowntime, Unknown, alert_line, command_of, comment_of, downtime_of, holds, is_named, is_taken}
 use Rattle.lq_live.specs.Step.{second_after}
-use Rattle.lq_live.specs.Edits.{depth_line}
+use Rattle.lq_live.specs.Edits.{line_edits}
+use Rattle.lq_live.specs.Order.{due_lines}
 use Rattle.lq_live.specs.Kept.{at_second, state_at}
 use Rattle.lq_live.specs.declared.check_result.CheckAttempt.{CheckAttempt}
 use Rattle.lq_live.specs.declared.downtime_effects.DowntimeRequest.{DowntimeRequest}
 use Rattle.lq_live.specs.declared.live_state.LiveState.{LiveState}
-use Rattle.lq_live.specs.declared.event.Event.{Event}
-use Rattle.lq_live.specs.declared.edit.DepthLine.{DepthLine}
 use Rattle.lq_live.specs.declared.edit.Edit.{Edit}
 use Rattle.lq_live.specs.declared.edit.Edit.TheVariants as edit
 
@@ -53,7 +53,7 @@ abbrev pub check_edits : Object → ℕ → List ℕ → State → List Edit
 check_edits object code output s =
     if nat_le code (most_code object)
     then result_edits s.now s.base object (pos code) output (names_of s.base object)
-    (status_of s object)
+    (object_status s object)
     else []
 
 -- ---- comments and acknowledgements
@@ -71,7 +71,7 @@ acknowledge_edits_in (Some old) object sticky given s =
 
 abbrev pub acknowledge_edits : Object → ℕ → NewComment → State → List Edit
 acknowledge_edits object sticky given s =
-    acknowledge_edits_in (status_of s object) object sticky given s
+    acknowledge_edits_in (object_status s object) object sticky given s
 
 abbrev pub remove_acknowledgement_edits : Object → State → List Edit
 remove_acknowledgement_edits object s =
@@ -93,24 +93,33 @@ request_of request = record {
   text = request.text.now;
 }
 
+-- the line of a change of an object's downtimes, where it is written
+abbrev pub change_edits : DowntimeChange → Object → List Downtime → State → List Edit
+change_edits change object changed s =
+    line_edits
+    (line_if (crosses (depth object s.downtimes) (depth object changed)) s.now change
+    (names_of s.base object))
+
 abbrev pub schedule_edits : NewDowntime → State → List Edit
 schedule_edits asked s =
-    only_if (holds s.base asked.object && is_taken s.now asked)
-    (edit.AddDowntime (downtime_of asked s)
-    (depth_line s.base s.now (codes "STARTED") asked.object))
+    if holds s.base asked.object && is_taken s.now asked
+    then change_edits downtime_change.Started asked.object
+    (s.downtimes ++ downtime_of asked s ∷ []) s
+    ++ edit.AddDowntime (downtime_of asked s) ∷ []
+    else []
 
-abbrev pub cancel_line : Option Downtime → State → Option DepthLine
-cancel_line found s = option_and_then
-    (λ found. depth_line s.base s.now (codes "CANCELLED") found.object)
-    found
+abbrev pub remove_found_edits : Option Downtime → ObjectKind → ℕ → State → List Edit
+remove_found_edits None kind id s = []
+remove_found_edits (Some found) kind id s =
+    change_edits downtime_change.Cancelled found.object
+    (filter (λ downtime. not (is_named kind id downtime.id downtime.object)) s.downtimes) s
+    ++ edit.RemoveDowntime kind id ∷ []
 
 abbrev pub remove_downtime_edits : ObjectKind → ℕ → State → List Edit
 remove_downtime_edits kind id s =
-    edit.RemoveDowntime kind id
-    (cancel_line
+    remove_found_edits
     (find (λ downtime. is_named kind id downtime.id downtime.object) s.downtimes)
-    s)
-    ∷ []
+    kind id s
 
 -- ---- notifications
 
@@ -139,12 +148,10 @@ effect_in second live act = effect_edits (command_of act) (state_at second live)
 
 -- ---- a step
 
-abbrev pub event_edit : Base → Event → Edit
-event_edit base event =
-    edit.Moment event (depth_line base event.moment (word_of event) event.object)
-
+-- the lines of all that is due at a second
 unfoldable pub advance_edits : Base → ℕ → List Downtime → List Edit
-advance_edits base second downtimes = map (event_edit base) (due second downtimes)
+advance_edits base second downtimes =
+    line_edits (due_lines base (due second downtimes) downtimes)
 
 abbrev pub edits_at : ℕ → State → Update → List Edit
 edits_at second s update =

@@ -5,7 +5,7 @@ ghost use Rattle.lq_live.specs.Downtimes.{only_if};
 ghost use Rattle.lq_live.specs.Effects.{alert_line};
 ghost use Rattle.lq_live.specs.Kept.{state_at};
 ghost use Rattle.lq_live.specs.Results.{check_attempt, differs, ends_acknowledgement, hard_at, is_bar, is_first_or_new, is_ok, most_attempts, most_code, service_attempt, status_after, type_number};
-ghost use Rattle.lq_live.specs.State.{line_names, names_of, status_of};
+ghost use Rattle.lq_live.specs.State.{line_names, names_of, object_status};
 ghost use Rattle.lq_live.specs.StepEdits.{Adds, attempt_of, check_edits, effect_in, is_of_checks, known_edits, result_edits};
 ghost use Rattle.lq_live.specs.declared.edit.Edit.TheVariants as edit;
 
@@ -91,7 +91,7 @@ impl<'a> StepContext<'a> {
             self.entry.second (arc_value self.entry.live.now.base) check.entry.object
             (pos check.entry.code) check.entry.output.now
             (names_of (arc_value self.entry.live.now.base) check.entry.object)
-            (status_of (state_at self.entry.second self.entry.live.now) check.entry.object))) }
+            (object_status (state_at self.entry.second self.entry.live.now) check.entry.object))) }
     {
         let Some(name) = self.name_of(check.object) else {
             return Ok(());

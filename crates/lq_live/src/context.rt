@@ -3,7 +3,7 @@ ghost use Rattle.std.specs.Arc.{arc_value};
 ghost use Rattle.std.specs.Option.{option_copied, option_map};
 ghost use Rattle.lq_live.specs.Effects.{holds};
 ghost use Rattle.lq_live.specs.Kept.{state_of};
-ghost use Rattle.lq_live.specs.State.{line_names, names_of, status_of};
+ghost use Rattle.lq_live.specs.State.{line_names, names_of, object_status};
 
 use crate::live_state::LiveState;
 use crate::names::{ObjectName, holds, names_of};
@@ -38,7 +38,7 @@ impl<'a> StepContext<'a> {
 
     /// The status of an object. None where the base doesn't hold it.
     pub(crate) fn status_of(self, object: Object) -> Option<&'a Status>
-        ensures { option_copied result ≡ status_of (state_of self.entry.live.now) object }
+        ensures { option_copied result ≡ object_status (state_of self.entry.live.now) object }
     {
         match object {
             Object::Host(id) => self.live.host_status.get(id.0 as usize),

@@ -1,17 +1,21 @@
-ghost use Rattle.std.specs.Prelude.{◌≡◌, ◌++◌, codes, true, IfOk, OnOk};
+ghost use Rattle.std.specs.Prelude.{◌≡◌, ◌++◌, ◌&&◌, filter, not, true, IfOk, OnOk};
 ghost use Rattle.std.specs.List.{find};
-ghost use Rattle.std.specs.Option.{option_copied};
+ghost use Rattle.std.specs.Option.{option_copied, option_map};
+ghost use Rattle.lq_live.specs.Downtimes.{depth};
+ghost use Rattle.lq_live.specs.Edits.{begun_by, ends_after, settled};
 ghost use Rattle.lq_live.specs.Effects.{downtime_of, is_named, is_taken};
 ghost use Rattle.lq_live.specs.Kept.{state_at};
-ghost use Rattle.lq_live.specs.StepEdits.{Adds, cancel_line, effect_in, is_of_host_downtimes, is_of_service_downtimes, remove_downtime_edits, request_of, schedule_edits};
+ghost use Rattle.lq_live.specs.StepEdits.{Adds, effect_in, is_of_host_downtimes, is_of_service_downtimes, remove_downtime_edits, request_of, schedule_edits};
 
 use crate::comments::is_named;
 use crate::context::StepContext;
+use crate::depths::crosses;
+use crate::downtimes::{Removal, count_at, count_without};
 use crate::due::DepthChange;
-use crate::edit::{DepthLine, Edit};
+use crate::edit::Edit;
 use crate::effect::push;
 use lq_events::{Act, Downtime};
-use lq_log::TIME_LIMIT;
+use lq_log::{DowntimeChange, TIME_LIMIT};
 use lq_records::{Memory, Object, ObjectKind, Text};
 
 /// A downtime as a command asks for it, in seconds. It is fixed where the number is 1, and has no
@@ -123,8 +127,12 @@ impl<'a> StepContext<'a> {
             return Ok(());
         }
         let downtime = self.downtime_of(request)?;
-        let line = self.depth_line(self.now("STARTED", request.object))?;
-        push(edits, Edit::AddDowntime(downtime, line))
+        self.push_change(
+            edits,
+            downtime.active && self.depth(request.object) == 0,
+            self.now(DowntimeChange::Started, request.object),
+        )?;
+        push(edits, Edit::AddDowntime(downtime))
     }
 
     fn downtime_of(self, request: DowntimeRequest<'_>) -> Result<Downtime, Memory>
@@ -147,14 +155,14 @@ impl<'a> StepContext<'a> {
     }
 
     /// A change of an object's downtimes at the second of the step.
-    fn now(self, word: &'static str, object: Object) -> DepthChange
+    fn now(self, change: DowntimeChange, object: Object) -> DepthChange
         ensures second { result.second ≡ self.entry.second }
-        ensures word { result.word.now ≡ word.now }
+        ensures change { result.change ≡ change }
         ensures object { result.object ≡ object }
     {
         DepthChange {
             second: self.second,
-            word,
+            change,
             object,
         }
     }
@@ -163,34 +171,56 @@ impl<'a> StepContext<'a> {
         ensures { OnOk result (Adds edits.old.items edits.new.items (remove_downtime_edits
             kind id (state_at self.entry.second self.entry.live.now))) }
     {
-        let line = self.cancel_line(self.find(kind, id))?;
-        push(edits, Edit::RemoveDowntime { kind, id, line })
+        let Some(found) = self.find(kind, id) else {
+            return Ok(());
+        };
+        let before = self.depth(found.object);
+        let later = self.depth_without(Removal {
+            kind,
+            id,
+            object: found.object,
+        });
+        self.push_change(
+            edits,
+            crosses(before, later),
+            self.now(DowntimeChange::Cancelled, found.object),
+        )?;
+        push(edits, Edit::RemoveDowntime { kind, id })
     }
 
-    /// The downtime that has an id, of an object of a kind.
+    /// The downtime that has an id, of an object of a kind, where it hasn't ended at the second.
     fn find(self, kind: ObjectKind, id: u64) -> Option<&'a Downtime>
-        ensures { option_copied result
+        ensures { option_map (begun_by self.entry.second) (option_copied result)
             ≡ find (λ downtime. is_named kind id downtime.id downtime.object)
-            self.entry.live.now.downtimes.items }
+            (settled self.entry.second self.entry.live.now.downtimes.items) }
     {
-        find(&self.live.downtimes, kind, id)
+        find(&self.live.downtimes, self.second, kind, id)
     }
 
-    /// The line of a downtime that is removed.
-    fn cancel_line(self, found: Option<&Downtime>) -> Result<Option<DepthLine>, Memory>
-        ensures { IfOk result (λ line. line ≡ cancel_line (option_copied found.entry)
-            (state_at self.entry.second self.entry.live.now)) }
+    /// The number of an object's downtimes that are active at the second.
+    fn depth(self, object: Object) -> usize
+        ensures { result ≡ depth object
+            (settled self.entry.second self.entry.live.now.downtimes.items) }
     {
-        match found {
-            Some(found) => self.depth_line(self.now("CANCELLED", found.object)),
-            None => Ok(None),
-        }
+        count_at(&self.live.downtimes, self.second, object)
+    }
+
+    /// The same without the downtime that is removed.
+    fn depth_without(self, removal: Removal) -> usize
+        ensures { result ≡ depth removal.object (filter
+            (λ downtime. not (is_named removal.kind removal.id downtime.id downtime.object))
+            (settled self.entry.second self.entry.live.now.downtimes.items)) }
+    {
+        count_without(&self.live.downtimes, self.second, removal)
     }
 }
 
-fn find(downtimes: &[Downtime], kind: ObjectKind, id: u64) -> Option<&Downtime>
-    ensures { option_copied result
-        ≡ find (λ downtime. is_named kind id downtime.id downtime.object) downtimes.now }
+fn find(downtimes: &[Downtime], second: u64, kind: ObjectKind, id: u64) -> Option<&Downtime>
+    ensures { option_copied result ≡ find
+        (λ downtime. ends_after second downtime && is_named kind id downtime.id downtime.object)
+        downtimes.now }
 {
-    downtimes.iter().find(|downtime| is_named(kind, id, downtime.id, downtime.object))
+    downtimes.iter().find(|downtime| {
+        second < downtime.end && is_named(kind, id, downtime.id, downtime.object)
+    })
 }

@@ -1,51 +1,49 @@
-ghost use Rattle.std.specs.Prelude.{◌≡◌, ◌≤◌, ◌==◌, filter, map, not, vec_capacity, vec_len};
-ghost use Rattle.lq_live.specs.Downtimes.{after, begin, depth, is_active_of};
+ghost use Rattle.std.specs.Prelude.{◌≡◌, ◌≤◌, ◌&&◌, filter, length, map, not, vec_capacity, vec_len};
+ghost use Rattle.lq_live.specs.Downtimes.{is_active_of};
+ghost use Rattle.lq_live.specs.Edits.{begun_by, ends_after, settled};
+ghost use Rattle.lq_live.specs.Depths.{is_active_at};
 ghost use Rattle.lq_live.specs.Effects.{is_named};
 ghost use Rattle.lq_live.specs.Kept.{AllFrom, IsFrom, first_of, next_of};
 
 use crate::comments::is_named;
-use crate::event::Event;
 use lq_events::Downtime;
 use lq_records::{Object, ObjectKind};
 
-/// What an event leaves: a start makes its downtime active, an end removes it.
-pub(crate) fn play(event: &Event, downtimes: &mut Vec<Downtime>)
-    ensures kept { downtimes.new.items ≡ after event.now downtimes.old.items }
+/// Lets all happen that is due by a second: the downtimes that have ended go, and those whose start
+/// has come become active.
+pub(crate) fn settle(downtimes: &mut Vec<Downtime>, second: u64)
+    ensures settled { downtimes.new.items ≡ settled second downtimes.old.items }
     ensures capacity { vec_capacity downtimes.new ≡ vec_capacity downtimes.old }
     ensures shorter { vec_len downtimes.new ≤ vec_len downtimes.old }
 {
-    if event.starts {
-        begin_all(downtimes, event.id);
-    } else {
-        end(downtimes, event.id);
-    }
+    end_all(downtimes, second);
+    begin_all(downtimes, second);
 }
 
-/// Makes the downtime with an id active.
-fn begin_all(downtimes: &mut [Downtime], id: u64)
-    ensures { downtimes.new ≡ map (begin id) downtimes.old }
+/// Removes the downtimes that have ended.
+fn end_all(downtimes: &mut Vec<Downtime>, second: u64)
+    ensures kept { downtimes.new.items ≡ filter (ends_after second) downtimes.old.items }
+    ensures capacity { vec_capacity downtimes.new ≡ vec_capacity downtimes.old }
+    ensures shorter { vec_len downtimes.new ≤ vec_len downtimes.old }
+{
+    downtimes.retain(|downtime| second < downtime.end);
+}
+
+/// Makes the downtimes active whose start has come.
+fn begin_all(downtimes: &mut [Downtime], second: u64)
+    ensures { downtimes.new ≡ map (begun_by second) downtimes.old }
 {
     for downtime in downtimes.iter_mut() {
-        begin(downtime, id);
+        begin(downtime, second);
     }
 }
 
-fn begin(downtime: &mut Downtime, id: u64)
-    ensures { downtime.new ≡ begin id downtime.old }
+fn begin(downtime: &mut Downtime, second: u64)
+    ensures { downtime.new ≡ begun_by second downtime.old }
 {
-    if downtime.id == id {
+    if downtime.start <= second {
         downtime.active = true;
     }
-}
-
-/// Removes the downtime with an id.
-fn end(downtimes: &mut Vec<Downtime>, id: u64)
-    ensures kept { downtimes.new.items
-        ≡ filter (λ downtime. not (downtime.id == id)) downtimes.old.items }
-    ensures capacity { vec_capacity downtimes.new ≡ vec_capacity downtimes.old }
-    ensures shorter { vec_len downtimes.new ≤ vec_len downtimes.old }
-{
-    downtimes.retain(|downtime| downtime.id != id);
 }
 
 /// Removes the downtime that has an id, of an object of a kind.
@@ -58,20 +56,54 @@ pub(crate) fn remove(downtimes: &mut Vec<Downtime>, kind: ObjectKind, id: u64)
     downtimes.retain(|downtime| !is_named(kind, id, downtime.id, downtime.object));
 }
 
-/// The number of an object's active downtimes.
-pub(crate) fn depth(object: Object, downtimes: &[Downtime]) -> usize
-    ensures { result ≡ depth object downtimes.now }
+/// The number of an object's downtimes that are active at a second.
+pub(crate) fn count_at(downtimes: &[Downtime], second: u64, object: Object) -> usize
+    ensures { result ≡ length (filter (is_active_at second object) downtimes.now) }
 {
     downtimes
         .iter()
-        .filter(|downtime| is_active_of(downtime, object))
+        .filter(|downtime| is_active_at(downtime, second, object))
         .count()
 }
 
-fn is_active_of(downtime: &Downtime, object: Object) -> bool
-    ensures { result ≡ is_active_of object downtime.now }
+/// A downtime that is removed: its id, the kind of object that its command names, and its object.
+#[derive(Clone, Copy)]
+pub(crate) struct Removal {
+    pub(crate) kind: ObjectKind,
+    pub(crate) id: u64,
+    pub(crate) object: Object,
+}
+
+/// The same number without the downtime that is removed.
+pub(crate) fn count_without(downtimes: &[Downtime], second: u64, removal: Removal) -> usize
+    ensures { result ≡ length (filter (λ downtime. is_active_at second removal.object downtime
+        && not (is_named removal.kind removal.id downtime.id downtime.object)) downtimes.now) }
 {
-    downtime.active && downtime.object.is_same(object)
+    downtimes
+        .iter()
+        .filter(|downtime| is_left_at(downtime, second, removal))
+        .count()
+}
+
+fn is_left_at(downtime: &Downtime, second: u64, removal: Removal) -> bool
+    ensures { result ≡ (is_active_at second removal.object downtime.now
+        && not (is_named removal.kind removal.id downtime.now.id downtime.now.object)) }
+{
+    is_active_at(downtime, second, removal.object)
+        && !is_named(removal.kind, removal.id, downtime.id, downtime.object)
+}
+
+/// Whether a downtime is one of an object, and active at a second.
+fn is_active_at(downtime: &Downtime, second: u64, object: Object) -> bool
+    ensures { result ≡ is_active_at second object downtime.now }
+{
+    second < downtime.end && has_begun_of(downtime, second, object)
+}
+
+fn has_begun_of(downtime: &Downtime, second: u64, object: Object) -> bool
+    ensures { result ≡ is_active_of object (begun_by second downtime.now) }
+{
+    (downtime.active || downtime.start <= second) && downtime.object.is_same(object)
 }
 
 /// The first second at which a downtime begins or ends, as far as that is still to come.

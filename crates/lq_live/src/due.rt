@@ -1,94 +1,83 @@
-ghost use Rattle.std.specs.Prelude.{◌≡◌, ◌++◌, ◌∷◌, [], map, OnOk, IfOk};
+ghost use Rattle.std.specs.Prelude.{◌≡◌, ◌++◌, OnOk, IfOk};
 ghost use Rattle.std.specs.Arc.{arc_value};
 ghost use Rattle.std.specs.Option.{option_map};
-ghost use Rattle.lq_live.specs.Downtimes.{downtime_line};
-ghost use Rattle.lq_live.specs.Edits.{depth_line, depth_line_of};
-ghost use Rattle.lq_live.specs.Ids.{HasRisingIds};
-ghost use Rattle.lq_live.specs.Kept.{state_of};
-ghost use Rattle.lq_live.specs.State.{line_names};
-ghost use Rattle.lq_live.specs.StepEdits.{Adds, advance_edits, event_edit};
+ghost use Rattle.lq_live.specs.Depths.{AreDepths, counted_depth, with_depth};
+ghost use Rattle.lq_live.specs.Downtimes.{change_of, depth, downtime_line, line_if};
+ghost use Rattle.lq_live.specs.Edits.{line_edits};
+ghost use Rattle.lq_live.specs.Kept.{IsKept, state_of};
+ghost use Rattle.lq_live.specs.Order.{due_lines, event_lines};
+ghost use Rattle.lq_live.specs.State.{line_names, names_of};
+ghost use Rattle.lq_live.specs.StepEdits.{Adds, advance_edits};
 
 use crate::context::StepContext;
-use crate::edit::{DepthLine, Edit};
+use crate::depths::Depths;
+use crate::edit::Edit;
 use crate::event::Event;
 use crate::names::ObjectName;
 use lq_events::LogEntry;
-use lq_log::{Form, make_line};
+use lq_log::{DowntimeChange, Form, make_line};
 use lq_records::{Memory, Object, Text};
 use std::alloc::Global;
 
-/// A second at which an object's downtimes change, and the word of the line that is written where
-/// the number of active ones leaves 0, or comes to it.
+/// A second at which an object's downtimes change, and how. A line says so where the number of
+/// active ones leaves 0, or comes to it.
 #[derive(Clone, Copy)]
 pub(crate) struct DepthChange {
     pub(crate) second: u64,
-    pub(crate) word: &'static str,
+    pub(crate) change: DowntimeChange,
     pub(crate) object: Object,
 }
 
 impl<'a> StepContext<'a> {
-    /// Adds the edits of the starts and ends that are due.
+    /// Adds the lines of the starts and ends that are due.
     #[tactic(auto, unfolding(crate::specs::StepEdits::advance_edits))]
     pub(crate) fn push_due(self, edits: &mut Vec<Edit>) -> Result<(), Memory>
-        requires { HasRisingIds (state_of self.live.now) }
+        requires { IsKept (state_of self.live.now) }
         ensures { OnOk result (Adds edits.old.items edits.new.items (advance_edits
             (arc_value self.entry.live.now.base) self.entry.second
             self.entry.live.now.downtimes.items)) }
     {
         let events = self.due()?;
-        self.push_events(edits, &events)
-    }
-
-    fn push_events(self, edits: &mut Vec<Edit>, events: &[Event]) -> Result<(), Memory>
-        ensures { OnOk result (Adds edits.old.items edits.new.items
-            (map (event_edit (arc_value self.entry.live.now.base)) events.now)) }
-    {
-        for event in events {
-            self.push_event(edits, event)?;
+        let mut depths = Depths::of(self.alloc, &self.live.base, &self.live.downtimes)?;
+        for event in &events {
+            let crosses = depths.take(event);
+            self.push_event(edits, crosses, event)?;
         }
         Ok(())
     }
 
-    fn push_event(self, edits: &mut Vec<Edit>, event: &Event) -> Result<(), Memory>
-        ensures { OnOk result (edits.new.items
-            ≡ edits.old.items ++ event_edit (arc_value self.entry.live.now.base) event.now ∷ []) }
+    fn push_event(self, edits: &mut Vec<Edit>, crosses: bool, event: &Event) -> Result<(), Memory>
+        ensures { OnOk result (Adds edits.old.items edits.new.items (line_edits
+            (line_if crosses event.now.moment (change_of event.now)
+            (names_of (arc_value self.entry.live.now.base) event.now.object)))) }
     {
         let change = DepthChange {
             second: event.moment,
-            word: event.word(),
+            change: event.change(),
             object: event.object,
         };
-        let line = self.depth_line(change)?;
-        edits.push(Edit::Moment(*event, line))?;
-        Ok(())
+        self.push_change(edits, crosses, change)
     }
 
-    /// The line of a change. None where the base doesn't hold its object.
-    pub(crate) fn depth_line(self, change: DepthChange) -> Result<Option<DepthLine>, Memory>
-        ensures { IfOk result (λ line. line
-            ≡ depth_line (arc_value self.entry.live.now.base) change.second change.word.now
-            change.object) }
-    {
-        self.depth_line_of(change, self.name_of(change.object))
-    }
-
-    fn depth_line_of(
+    /// Adds the line of a change, where it is to be written and the base holds the object.
+    pub(crate) fn push_change(
         self,
+        edits: &mut Vec<Edit>,
+        written: bool,
         change: DepthChange,
-        name: Option<ObjectName<'_>>,
-    ) -> Result<Option<DepthLine>, Memory>
-        ensures { IfOk result (λ line. line
-            ≡ depth_line_of change.second change.word.now change.object
-            (option_map (λ name. line_names name.host.now name.service.now) name.entry)) }
+    ) -> Result<(), Memory>
+        ensures { OnOk result (Adds edits.old.items edits.new.items (line_edits
+            (line_if written change.second change.change
+            (names_of (arc_value self.entry.live.now.base) change.object)))) }
     {
-        let Some(name) = name else {
-            return Ok(None);
+        if !written {
+            return Ok(());
+        }
+        let Some(name) = self.name_of(change.object) else {
+            return Ok(());
         };
-        let entry = downtime_line(self.alloc, change, name)?;
-        Ok(Some(DepthLine {
-            object: change.object,
-            entry,
-        }))
+        edits.push(Edit::Line(downtime_line(self.alloc, change, name)?))?;
+        Ok(())
     }
 }
 
@@ -98,13 +87,13 @@ fn downtime_line(
     change: DepthChange,
     name: ObjectName<'_>,
 ) -> Result<LogEntry, Memory>
-    ensures { IfOk result (λ entry. entry ≡ downtime_line change.second change.word.now
+    ensures { IfOk result (λ entry. entry ≡ downtime_line change.second change.change
         (line_names name.entry.host.now name.entry.service.now)) }
 {
     let form = Form::Downtime {
         host: Text::new(alloc, name.host)?,
         service: Text::new(alloc, name.service)?,
-        word: Text::new(alloc, change.word)?,
+        change: change.change,
     };
     make_line(alloc, change.second, &form)
 }

@@ -1,13 +1,14 @@
 ghost use Rattle.std.specs.Prelude.{◌≡◌, ◌++◌, ◌&&◌, nat_le, not, flat_map, IfOk, OnOk, IsSorted};
 ghost use Rattle.std.specs.List.Sorted.{IsPermutation};
-ghost use Rattle.lq_live.specs.Downtimes.{due, end_of, event_order, moments, only_if, start_of, word_of};
-ghost use Rattle.lq_live.specs.Ids.{HasRisingIds};
-ghost use Rattle.lq_live.specs.Kept.{state_of};
+ghost use Rattle.lq_live.specs.Downtimes.{due, end_of, event_order, moments, only_if, start_of, change_of};
+ghost use Rattle.lq_live.specs.Kept.{IsKept, state_of};
 
 use crate::context::StepContext;
 use lq_events::Downtime;
+use lq_log::DowntimeChange;
 use lq_records::{Memory, Object};
 use std::alloc::Global;
+use std::marker::Model;
 
 /// A moment at which a downtime begins or ends.
 #[derive(Clone, Copy)]
@@ -19,6 +20,26 @@ pub(crate) struct Event {
     pub(crate) id: u64,
     /// What the downtime is about.
     pub(crate) object: Object,
+}
+
+impl Model for Event {
+    ghost use Rattle.lq_live.specs.Downtimes.{Event};
+
+    ghost Value = { Event };
+
+    ghost view = { λ event. record {
+      moment = event.moment;
+      starts = event.starts;
+      id = event.id;
+      object = event.object;
+    } };
+
+    ghost inverse = { λ event. record {
+      moment = event.moment;
+      starts = event.starts;
+      id = event.id;
+      object = event.object;
+    } };
 }
 
 /// What events are sorted by: the moment, ends before starts, then the id.
@@ -63,18 +84,22 @@ impl Event {
         }
     }
 
-    /// The word of its line.
-    pub(crate) fn word(&self) -> &'static str
-        ensures { result.now ≡ word_of self.now }
+    /// What happens to its downtime.
+    pub(crate) fn change(&self) -> DowntimeChange
+        ensures { result ≡ change_of self.now }
     {
-        if self.starts { "STARTED" } else { "STOPPED" }
+        if self.starts {
+            DowntimeChange::Started
+        } else {
+            DowntimeChange::Stopped
+        }
     }
 }
 
 impl<'a> StepContext<'a> {
     /// The starts and ends that are due at the second, in their order.
     pub(crate) fn due(self) -> Result<Vec<Event>, Memory>
-        requires { HasRisingIds (state_of self.live.now) }
+        requires { IsKept (state_of self.live.now) }
         ensures { IfOk result (λ events. events.items
             ≡ due self.entry.second self.entry.live.now.downtimes.items) }
     {

@@ -5,6 +5,7 @@ mod check_result;
 mod comment_effects;
 mod comments;
 mod context;
+mod depths;
 mod downtime_effects;
 mod downtimes;
 mod due;

@@ -10,7 +10,6 @@ ghost use Rattle.lq_live.specs.Always.{IsCurrent, IsFront};
 ghost use Rattle.lq_live.specs.Downtimes.{IsDue, due};
 ghost use Rattle.lq_live.specs.Step.{second_after, step};
 
-use crate::downtimes::first_moment;
 use crate::edit::{play, reserve};
 use crate::live_state::LiveState;
 use crate::step::step_edits;
@@ -100,7 +99,6 @@ impl Live {
         let edits = step_edits(self.alloc, &self.state, u)?;
         reserve(&mut self.state, edits.len())?;
         play(&mut self.state, edits);
-        look_ahead(&mut self.state);
         self.count += 1;
         Ok(())
     }
@@ -190,16 +188,6 @@ impl Live {
         ensures ids { IdsRise comment_id 0 self.now.state.next_comment result.now }
     {
         &self.state.comments
-    }
-}
-
-/// Finds the next moment anew where its second has come.
-fn look_ahead(live: &mut LiveState)
-    ensures state { state_of live.new ≡ state_of live.old }
-    ensures index { IsIndexed live.old → IsIndexed live.new }
-{
-    if live.present >= live.next_moment {
-        live.next_moment = first_moment(&live.downtimes);
     }
 }
 

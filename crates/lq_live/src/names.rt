@@ -2,7 +2,7 @@ ghost use Rattle.std.specs.Prelude.{◌≡◌, map};
 ghost use Rattle.std.specs.List.{slice_get};
 ghost use Rattle.std.specs.Option.{option_copied, option_map};
 ghost use Rattle.lq_live.specs.Effects.{holds};
-ghost use Rattle.lq_live.specs.State.{host_name, line_names, names_of};
+ghost use Rattle.lq_live.specs.State.{line_names, host_in_line, names_of};
 
 use lq_records::{Base, Object, Service};
 
@@ -30,7 +30,7 @@ pub(crate) fn names_of<'a>(base: &'a Base, object: Object) -> Option<ObjectName<
 fn service_names<'a>(base: &'a Base, service: &'a Service) -> Option<ObjectName<'a>>
     ensures { option_map (λ name. line_names name.host.now name.service.now) result
         ≡ option_map (λ host. line_names host service.now.service_description)
-        (host_name base.now service.now.host.0) }
+        (host_in_line base.now service.now.host.0) }
 {
     host_names(
         base,
@@ -41,7 +41,7 @@ fn service_names<'a>(base: &'a Base, service: &'a Service) -> Option<ObjectName<
 
 fn host_names<'a>(base: &'a Base, place: usize, description: &'a str) -> Option<ObjectName<'a>>
     ensures { option_map (λ name. line_names name.host.now name.service.now) result
-        ≡ option_map (λ host. line_names host description.now) (host_name base.now place) }
+        ≡ option_map (λ host. line_names host description.now) (host_in_line base.now place) }
 {
     let host = base.hosts.as_slice().get(place)?;
     Some(ObjectName {

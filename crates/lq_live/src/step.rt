@@ -3,8 +3,7 @@ ghost use Rattle.std.specs.Arc.{arc_value};
 ghost use Rattle.lq_log.specs.Written.{written};
 ghost use Rattle.lq_log.specs.declared.written.Form.TheVariants as form;
 ghost use Rattle.lq_live.specs.Edits.{play_edits};
-ghost use Rattle.lq_live.specs.Ids.{HasRisingIds};
-ghost use Rattle.lq_live.specs.Kept.{IsIndexed, state_of};
+ghost use Rattle.lq_live.specs.Kept.{IsIndexed, IsKept, state_of};
 ghost use Rattle.lq_live.specs.Step.{step};
 ghost use Rattle.lq_live.specs.StepEdits.{Adds, advance_edits, edits_at, step_edits};
 
@@ -24,7 +23,7 @@ pub(crate) fn step_edits(
     update: &Update,
 ) -> Result<Vec<Edit>, Memory>
     requires index { IsIndexed live.now }
-    requires ids { HasRisingIds (state_of live.now) }
+    requires kept { IsKept (state_of live.now) }
     ensures edits { IfOk result
         (λ edits. edits.items ≡ step_edits (state_of live.now) update.now) }
     ensures plays { IfOk result (λ edits. play_edits edits.items (state_of live.now)
@@ -43,7 +42,7 @@ pub(crate) fn step_edits(
 impl<'a> StepContext<'a> {
     fn edits(self, update: &Update) -> Result<Vec<Edit>, Memory>
         requires index { IsIndexed self.live.now }
-        requires ids { HasRisingIds (state_of self.live.now) }
+        requires kept { IsKept (state_of self.live.now) }
         ensures { IfOk result (λ edits. edits.items
             ≡ edits_at self.entry.second (state_of self.entry.live.now) update.now) }
     {
@@ -59,7 +58,7 @@ impl<'a> StepContext<'a> {
     /// Adds the edits of the downtimes that are due.
     fn advance(self, edits: &mut Vec<Edit>) -> Result<(), Memory>
         requires index { IsIndexed self.live.now }
-        requires ids { HasRisingIds (state_of self.live.now) }
+        requires kept { IsKept (state_of self.live.now) }
         ensures { OnOk result (Adds edits.old.items edits.new.items
             (advance_edits (arc_value self.entry.live.now.base) self.entry.second
             self.entry.live.now.downtimes.items)) }

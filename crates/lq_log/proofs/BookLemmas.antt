@@ -1,10 +1,12 @@
 -- What a further entry does to the order of a book, and the time of the last one.
-use Rattle.std.proofs.Common.{◌≡◌, ℕ, zero, suc, ◌<◌, ◌≤◌, ◌+◌, ◌-◌, List, [], ◌∷◌, ◌++◌, Some, None, length, refl, ap, arith}
+use Rattle.std.proofs.Common.{All, ◌≡◌, ℕ, zero, suc, ◌<◌, ◌≤◌, ◌+◌, ◌-◌, List, [], ◌∷◌, ◌++◌, Some, None, length, refl, ap, arith}
 use Rattle.std.proofs.lemmas.Grind.{common_steps}
 use Rattle.std.proofs.lemmas.Option.{slice_get-get_or, slice_get_within}
+use Rattle.std.proofs.lemmas.List.Elements.{All-push}
 use Rattle.std.specs.List.{slice_get}
 use Rattle.std.specs.Option.{option_map_or}
 use Rattle.lq_events.specs.declared.log_entry.LogEntry.{LogEntry}
+use Rattle.lq_log.specs.Entries.{IsOfLine}
 use Rattle.lq_log.specs.Book.{InOrder, InOrderAfter, last_time, time_after, time_limit}
 
 longer_after : (before : ℕ) (entries : List LogEntry) (entry : LogEntry) → InOrderAfter before entries → time_after before entries ≤ entry.time → entry.time < time_limit → InOrderAfter before (entries ++ entry ∷ [])
@@ -35,3 +37,6 @@ last_time_is entries entry is =
 pub no_last_time : (entries : List LogEntry) → slice_get entries (length entries - 1) ≡ None → last_time entries ≡ 0
 no_last_time [] none = refl
 no_last_time (first ∷ entries) none = grind (arith, common_steps, none, slice_get-get_or (first ∷ entries) (length entries) first)
+
+pub longer_of_lines : (entries longer : List LogEntry) (entry : LogEntry) → longer ≡ entries ++ entry ∷ [] → All IsOfLine entries → IsOfLine entry → All IsOfLine longer
+longer_of_lines entries longer entry is all of_line = rw is (All-push IsOfLine entries entry all of_line)

@@ -1,4 +1,5 @@
 pub mod BookLemmas
+pub mod LineLemmas
 pub mod NumberLemmas
 pub mod ReadLemmas
 pub mod SeparatorLemmas

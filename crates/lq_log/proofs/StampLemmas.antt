@@ -109,8 +109,8 @@ unfolding form_text
 text_begins (form.External text) = refl
 text_begins (form.Alert host service state hard attempt output) =
     alert_begins (is_of_host service) (object_text host service) (next_field (state_word service state)) (next_field (type_word hard)) (next_field (decimal attempt)) (next_field output)
-text_begins (form.Downtime host service word) =
-    downtime_begins (is_of_host service) (object_text host service) (next_field (downtime_fields service word))
+text_begins (form.Downtime host service change) =
+    downtime_begins (is_of_host service) (object_text host service) (next_field (downtime_fields service change))
 
 stamped_line : (time : ℕ) (text : List ℕ) → line (decimal time) text ≡ stamped time text
 unfolding stamped line

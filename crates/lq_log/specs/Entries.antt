@@ -1,5 +1,5 @@
 -- The entry of a log line.
-use Rattle.std.specs.Prelude.{ℕ, pos, max, ◌==◌, ◌&&◌, nat_eq, Option, Some, None, List, [], ◌∷◌, unwrap_or, codes, if◌then◌else◌}
+use Rattle.std.specs.Prelude.{◌≡◌, ℕ, pos, max, ◌==◌, ◌&&◌, nat_eq, Option, Some, None, List, [], ◌∷◌, unwrap_or, codes, if◌then◌else◌}
 use Rattle.std.specs.List.{list_any, starts_with}
 use Rattle.std.specs.Option.{option_map, option_and_then}
 use Rattle.lq_text.specs.Blanks.{is_blank}
@@ -79,3 +79,8 @@ entry_of line before =
     option_map
     (λ second. record (said (text_behind line)) { time = max second before; message = line })
     (second_of line)
+
+-- An entry that a line gives after some time: the line is its message, and after the entry's own
+-- time it gives the entry again.
+abbrev pub IsOfLine : LogEntry → Type 0
+IsOfLine entry = entry_of entry.message entry.time ≡ Some entry

@@ -1,9 +1,11 @@
 -- The lines that the program writes.
-use Rattle.std.specs.Prelude.{ℕ, Bool, List, ◌++◌, length, unwrap_or, bytes_eq, codes, ◌==◌, if◌then◌else◌, ℤ, []}
+use Rattle.std.specs.Prelude.{ℕ, Bool, List, ◌++◌, length, unwrap_or, codes, ◌==◌, if◌then◌else◌, ℤ, []}
 use Rattle.std.specs.Fmt.{decimal}
 use Rattle.lq_events.specs.declared.log_entry.LogEntry.{LogEntry}
 use Rattle.lq_log.specs.Entries.{said}
 use Rattle.lq_log.specs.Fields.{host_states, name_of_state, service_states}
+use Rattle.lq_log.specs.declared.written.DowntimeChange.{DowntimeChange}
+use Rattle.lq_log.specs.declared.written.DowntimeChange.TheVariants as change
 use Rattle.lq_log.specs.declared.written.Form.{Form}
 use Rattle.lq_log.specs.declared.written.Form.TheVariants as form
 
@@ -37,34 +39,32 @@ abbrev pub downtime_name : List ℕ → List ℕ
 downtime_name service =
     if is_of_host service then codes "HOST DOWNTIME ALERT: " else codes "SERVICE DOWNTIME ALERT: "
 
--- the word of a downtime, and the comment that follows it
-abbrev pub host_downtime : List ℕ → List ℕ
-host_downtime word =
-    if bytes_eq word (codes "STARTED")
-    then codes "STARTED; Host has entered a period of scheduled downtime"
-    else if bytes_eq word (codes "STOPPED")
-    then codes "STOPPED; Host has exited from a period of scheduled downtime"
-    else codes "CANCELLED; Scheduled downtime for host has been cancelled."
+-- what happens to a downtime, and the comment that follows it
+abbrev pub host_downtime : DowntimeChange → List ℕ
+host_downtime change.Started = codes "STARTED; Host has entered a period of scheduled downtime"
+host_downtime change.Stopped = codes "STOPPED; Host has exited from a period of scheduled downtime"
+host_downtime change.Cancelled = codes "CANCELLED; Scheduled downtime for host has been cancelled."
 
-abbrev pub service_downtime : List ℕ → List ℕ
-service_downtime word =
-    if bytes_eq word (codes "STARTED")
-    then codes "STARTED; Service has entered a period of scheduled downtime"
-    else if bytes_eq word (codes "STOPPED")
-    then codes "STOPPED; Service has exited from a period of scheduled downtime"
-    else codes "CANCELLED; Scheduled downtime for service has been cancelled."
+abbrev pub service_downtime : DowntimeChange → List ℕ
+service_downtime change.Started =
+    codes "STARTED; Service has entered a period of scheduled downtime"
+service_downtime change.Stopped =
+    codes "STOPPED; Service has exited from a period of scheduled downtime"
+service_downtime change.Cancelled =
+    codes "CANCELLED; Scheduled downtime for service has been cancelled."
 
-abbrev pub downtime_fields : List ℕ → List ℕ → List ℕ
-downtime_fields service word =
-    if is_of_host service then host_downtime word else service_downtime word
+abbrev pub downtime_fields : List ℕ → DowntimeChange → List ℕ
+downtime_fields service change =
+    if is_of_host service then host_downtime change else service_downtime change
 
 unfoldable pub form_text : Form → List ℕ
 form_text (form.External text) = codes "EXTERNAL COMMAND: " ++ text
 form_text (form.Alert host service state hard attempt output) =
     alert_name service ++ object_text host service ++ next_field (state_word service state)
     ++ next_field (type_word hard) ++ next_field (decimal attempt) ++ next_field output
-form_text (form.Downtime host service word) =
-    downtime_name service ++ object_text host service ++ next_field (downtime_fields service word)
+form_text (form.Downtime host service change) =
+    downtime_name service ++ object_text host service
+    ++ next_field (downtime_fields service change)
 
 -- ---- the entry
 

@@ -1,5 +1,6 @@
-ghost use Rattle.std.specs.Prelude.{◌≡◌, ◌<◌, ◌≤◌, ◌^◌, ◌+◌, ◌++◌, ◌∷◌, ◌==◌, [], IfOk, IsOk, OnErr, OnOk, length};
+ghost use Rattle.std.specs.Prelude.{All, ◌≡◌, ◌<◌, ◌≤◌, ◌^◌, ◌+◌, ◌++◌, ◌∷◌, ◌==◌, [], IfOk, IsOk, OnErr, OnOk, length};
 ghost use Rattle.lq_log.specs.Book.{InOrder, last_time, time_limit};
+ghost use Rattle.lq_log.specs.Entries.{IsOfLine};
 
 use lq_events::LogEntry;
 use lq_records::Memory;
@@ -13,16 +14,17 @@ pub const TIME_LIMIT: u64 = 1_000_000_000_000;
 /// The most entries of a book. One more is refused, as if there were no memory for it.
 const MOST_ENTRIES: usize = 1 << 40;
 
-/// The entries of a log, each no earlier than the one before.
+/// The entries of a log. A line gives each of them, and none is earlier than the one before.
 #[derive(Drop)]
 pub struct LogBook {
     entries: Vec<LogEntry>,
 }
 
 impl Model for LogBook {
-    ghost use Rattle.std.specs.Prelude.{◌-◌, ◌≤◌, ◌^◌, min};
+    ghost use Rattle.std.specs.Prelude.{All, ◌-◌, ◌≤◌, ◌^◌, min};
     ghost use Rattle.std.specs.Vec.{vec_len, vec_capacity};
     ghost use Rattle.lq_log.specs.Book.{Book, InOrder};
+    ghost use Rattle.lq_log.specs.Entries.{IsOfLine};
 
     ghost Value = { Book };
 
@@ -31,7 +33,8 @@ impl Model for LogBook {
       room = min (vec_capacity book.entries) (2 ^ 40) - vec_len book.entries;
     } };
 
-    ghost invariant = { λ book. (vec_len book.entries ≤ 2 ^ 40) × InOrder book.entries.items };
+    ghost invariant = { λ book. (vec_len book.entries ≤ 2 ^ 40) × InOrder book.entries.items
+        × All IsOfLine book.entries.items };
 }
 
 impl LogBook {
@@ -72,11 +75,12 @@ impl LogBook {
         Ok(LogBook { entries })
     }
 
-    /// Adds an entry at the end, which is no earlier than the last one. The only error is running
-    /// out of memory, also where there would be more than 2^40 entries; the entries are as before
-    /// then. It doesn't come where the book has room.
-    #[tactic(auto, using(crate::proofs::BookLemmas::longer_in_order, crate::proofs::BookLemmas::last_time_added))]
+    /// Adds an entry at the end, which a line gives and which is no earlier than the last one. The
+    /// only error is running out of memory, also where there would be more than 2^40 entries; the
+    /// entries are as before then. It doesn't come where the book has room.
+    #[tactic(auto, using(crate::proofs::BookLemmas::longer_in_order, crate::proofs::BookLemmas::longer_of_lines, crate::proofs::BookLemmas::last_time_added))]
     pub fn add(&mut self, entry: LogEntry) -> Result<(), Memory>
+        requires line { IsOfLine entry }
         requires order { last_time self.old.entries ≤ entry.time }
         requires below { entry.time < time_limit }
         ensures ok { OnOk result (self.new.entries ≡ self.old.entries ++ entry ∷ []) }
@@ -88,6 +92,15 @@ impl LogBook {
         self.reserve(1)?;
         self.entries.push_reserved(entry);
         Ok(())
+    }
+
+    /// The entries. A line gives each of them.
+    pub fn entries(&self) -> &[LogEntry]
+        ensures all { result.now ≡ self.now.entries }
+        ensures lines { All IsOfLine result.now }
+        ensures order { InOrder result.now }
+    {
+        &self.entries
     }
 
     /// How many entries there are, at most 2^40.

@@ -14,4 +14,4 @@ mod written;
 
 pub use book::{LogBook, TIME_LIMIT};
 pub use read::read_line;
-pub use written::{Form, make_line};
+pub use written::{DowntimeChange, Form, make_line};

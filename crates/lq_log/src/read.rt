@@ -1,7 +1,7 @@
 ghost use Rattle.std.specs.Prelude.{◌≡◌, ◌<◌, ◌≤◌, IfOk, IfSome, nat_eq};
 ghost use Rattle.std.specs.List.{list_any, starts_with};
 ghost use Rattle.std.specs.Option.{option_and_then};
-ghost use Rattle.lq_log.specs.Entries.{blank, entry_of, formed, other, parted, program_beginnings, said};
+ghost use Rattle.lq_log.specs.Entries.{IsOfLine, blank, entry_of, formed, other, parted, program_beginnings, said};
 ghost use Rattle.lq_log.specs.Book.{time_limit};
 
 use crate::class;
@@ -18,6 +18,7 @@ use std::alloc::Global;
 /// fields says nothing but its message and its time. The only error is running out of memory.
 pub fn read_line(alloc: Global, line: &str, before: u64) -> Result<Option<LogEntry>, Memory>
     ensures read { IfOk result (λ entry. entry ≡ entry_of line.now before) }
+    ensures line { IfOk result (λ read. IfSome read IsOfLine) }
     ensures order { IfOk result (λ read. IfSome read (λ entry. before ≤ entry.time)) }
     ensures below { before < time_limit
         → IfOk result (λ read. IfSome read (λ entry. entry.time < time_limit)) }

@@ -1,6 +1,6 @@
 ghost use Rattle.std.specs.Prelude.{◌≡◌, ◌<◌, ◌++◌, IfOk, OnOk, Some, codes, string_bytes};
 ghost use Rattle.std.specs.Fmt.{decimal};
-ghost use Rattle.lq_log.specs.Entries.{entry_of};
+ghost use Rattle.lq_log.specs.Entries.{IsOfLine, entry_of};
 ghost use Rattle.lq_log.specs.Book.{time_limit};
 ghost use Rattle.lq_log.specs.Written.{alert_name, downtime_fields, downtime_name, form_text, host_downtime, next_field, object_text, service_downtime, stamped, state_word, type_word, written};
 
@@ -9,6 +9,17 @@ use crate::words::{host_state_name, service_state_name};
 use lq_events::LogEntry;
 use lq_records::{Memory, Text};
 use std::alloc::Global;
+
+/// What happens to a downtime.
+#[derive(Clone, Copy)]
+pub enum DowntimeChange {
+    /// It begins.
+    Started,
+    /// It ends.
+    Stopped,
+    /// It is removed before its end.
+    Cancelled,
+}
 
 /// A line that the program writes.
 #[derive(Drop)]
@@ -31,13 +42,12 @@ pub enum Form {
         attempt: u32,
         output: Text,
     },
-    /// A downtime that begins or ends.
+    /// A downtime that begins, ends or is removed.
     Downtime {
         host: Text,
         /// The service's description; empty where the downtime is the host's own.
         service: Text,
-        /// `STARTED` or `STOPPED`; any other word is written as `CANCELLED`.
-        word: Text,
+        change: DowntimeChange,
     },
 }
 
@@ -50,6 +60,7 @@ pub fn make_line(alloc: Global, time: u64, form: &Form) -> Result<LogEntry, Memo
     ensures made { IfOk result (λ entry. entry ≡ written time form.now) }
     ensures own_text { time < time_limit
         → IfOk result (λ entry. entry_of entry.message 0 ≡ Some entry) }
+    ensures line { time < time_limit → IfOk result IsOfLine }
 {
     let text = form_text(alloc, form)?;
     let mut entry = said(alloc, text.as_str())?;
@@ -93,8 +104,8 @@ fn form_text(alloc: Global, form: &Form) -> Result<String, Memory>
         Form::Downtime {
             host,
             service,
-            word,
-        } => downtime_text(alloc, host.as_str(), service.as_str(), word.as_str()),
+            change,
+        } => downtime_text(alloc, host.as_str(), service.as_str(), *change),
     }
 }
 
@@ -131,15 +142,20 @@ fn push_result(text: &mut String, hard: bool, attempt: &str, output: &str) -> Re
     push_field(text, output)
 }
 
-fn downtime_text(alloc: Global, host: &str, service: &str, word: &str) -> Result<String, Memory>
+fn downtime_text(
+    alloc: Global,
+    host: &str,
+    service: &str,
+    change: DowntimeChange,
+) -> Result<String, Memory>
     ensures { IfOk result
         (λ text. string_bytes text
         ≡ downtime_name service.now ++ object_text host.now service.now
-        ++ next_field (downtime_fields service.now word.now)) }
+        ++ next_field (downtime_fields service.now change)) }
 {
     let mut text = String::from_str(alloc, downtime_name(service))?;
     push_object(&mut text, host, service)?;
-    push_field(&mut text, downtime_fields(service, word))?;
+    push_field(&mut text, downtime_fields(service, change))?;
     Ok(text)
 }
 
@@ -194,33 +210,37 @@ fn downtime_name(service: &str) -> &'static str
     }
 }
 
-/// The word of a downtime, and the comment that follows it.
-fn downtime_fields(service: &str, word: &str) -> &'static str
-    ensures { result.now ≡ downtime_fields service.now word.now }
+/// What happens to a downtime, and the comment that follows it.
+fn downtime_fields(service: &str, change: DowntimeChange) -> &'static str
+    ensures { result.now ≡ downtime_fields service.now change }
 {
     if service.is_empty() {
-        host_downtime(word)
+        host_downtime(change)
     } else {
-        service_downtime(word)
+        service_downtime(change)
     }
 }
 
-fn host_downtime(word: &str) -> &'static str
-    ensures { result.now ≡ host_downtime word.now }
+fn host_downtime(change: DowntimeChange) -> &'static str
+    ensures { result.now ≡ host_downtime change }
 {
-    match word {
-        "STARTED" => "STARTED; Host has entered a period of scheduled downtime",
-        "STOPPED" => "STOPPED; Host has exited from a period of scheduled downtime",
-        _ => "CANCELLED; Scheduled downtime for host has been cancelled.",
+    match change {
+        DowntimeChange::Started => "STARTED; Host has entered a period of scheduled downtime",
+        DowntimeChange::Stopped => "STOPPED; Host has exited from a period of scheduled downtime",
+        DowntimeChange::Cancelled => "CANCELLED; Scheduled downtime for host has been cancelled.",
     }
 }
 
-fn service_downtime(word: &str) -> &'static str
-    ensures { result.now ≡ service_downtime word.now }
+fn service_downtime(change: DowntimeChange) -> &'static str
+    ensures { result.now ≡ service_downtime change }
 {
-    match word {
-        "STARTED" => "STARTED; Service has entered a period of scheduled downtime",
-        "STOPPED" => "STOPPED; Service has exited from a period of scheduled downtime",
-        _ => "CANCELLED; Scheduled downtime for service has been cancelled.",
+    match change {
+        DowntimeChange::Started => "STARTED; Service has entered a period of scheduled downtime",
+        DowntimeChange::Stopped => {
+            "STOPPED; Service has exited from a period of scheduled downtime"
+        }
+        DowntimeChange::Cancelled => {
+            "CANCELLED; Scheduled downtime for service has been cancelled."
+        }
     }
 }

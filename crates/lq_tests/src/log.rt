@@ -1,11 +1,12 @@
 //! What log lines say, which lines the program writes, and the book that keeps them.
 
 ghost use Rattle.std.specs.Prelude.{◌≡◌, ◌<◌, IfOk};
+ghost use Rattle.lq_log.specs.Entries.{IsOfLine};
 ghost use Rattle.lq_log.specs.declared.book.TheConstants.{TIME_LIMIT};
 
 use crate::fixture::{assert_same, push_all};
 use lq_events::{Kind, LogEntry};
-use lq_log::{Form, LogBook, make_line, read_line};
+use lq_log::{DowntimeChange, Form, LogBook, make_line, read_line};
 use lq_records::Text;
 use std::alloc::{AllocError, Global};
 use std::process::Abort;
@@ -318,22 +319,25 @@ const ALERTS: &[(&str, i64, (&str, &str))] = &[
 ];
 
 /// A downtime of web1 or of a service on it.
-fn downtime(alloc: Global, service: &str, word: &str) -> Result<Form, AllocError> {
+fn downtime(
+    alloc: Global,
+    service: &str,
+    change: DowntimeChange,
+) -> Result<Form, AllocError> {
     let host = Text::new(alloc, "web1")?;
     let service = Text::new(alloc, service)?;
-    let word = Text::new(alloc, word)?;
     Ok(Form::Downtime {
         host,
         service,
-        word,
+        change,
     })
 }
 
-/// A service's description, the word of a downtime, and what is written of it.
-const DOWNTIMES: &[(&str, &str, (&str, &str))] = &[
+/// A service's description, what happens to a downtime, and what is written of it.
+const DOWNTIMES: &[(&str, DowntimeChange, (&str, &str))] = &[
     (
         "",
-        "STARTED",
+        DowntimeChange::Started,
         (
             "HOST DOWNTIME ALERT: web1;STARTED; Host has entered a period of scheduled downtime",
             "1 HostDowntimeAlert 0 0|web1||STARTED|||| \
@@ -342,7 +346,7 @@ const DOWNTIMES: &[(&str, &str, (&str, &str))] = &[
     ),
     (
         "",
-        "STOPPED",
+        DowntimeChange::Stopped,
         (
             "HOST DOWNTIME ALERT: web1;STOPPED; \
              Host has exited from a period of scheduled downtime",
@@ -352,7 +356,7 @@ const DOWNTIMES: &[(&str, &str, (&str, &str))] = &[
     ),
     (
         "",
-        "CANCELLED",
+        DowntimeChange::Cancelled,
         (
             "HOST DOWNTIME ALERT: web1;CANCELLED; Scheduled downtime for host has been cancelled.",
             "1 HostDowntimeAlert 0 0|web1||CANCELLED|||| \
@@ -361,7 +365,7 @@ const DOWNTIMES: &[(&str, &str, (&str, &str))] = &[
     ),
     (
         "disk",
-        "STARTED",
+        DowntimeChange::Started,
         (
             "SERVICE DOWNTIME ALERT: web1;disk;STARTED; \
              Service has entered a period of scheduled downtime",
@@ -371,7 +375,7 @@ const DOWNTIMES: &[(&str, &str, (&str, &str))] = &[
     ),
     (
         "disk",
-        "STOPPED",
+        DowntimeChange::Stopped,
         (
             "SERVICE DOWNTIME ALERT: web1;disk;STOPPED; \
              Service has exited from a period of scheduled downtime",
@@ -381,7 +385,7 @@ const DOWNTIMES: &[(&str, &str, (&str, &str))] = &[
     ),
     (
         "disk",
-        "CANCELLED",
+        DowntimeChange::Cancelled,
         (
             "SERVICE DOWNTIME ALERT: web1;disk;CANCELLED; \
              Scheduled downtime for service has been cancelled.",
@@ -403,8 +407,8 @@ fn commands_alerts_and_downtimes_are_written(rt: HostRuntime) -> Result<(), Fail
     for (service, state, written) in ALERTS {
         assert_written(&rt, alert(rt.alloc(), *service, *state)?, *written)?;
     }
-    for (service, word, written) in DOWNTIMES {
-        assert_written(&rt, downtime(rt.alloc(), *service, *word)?, *written)?;
+    for (service, change, written) in DOWNTIMES {
+        assert_written(&rt, downtime(rt.alloc(), *service, *change)?, *written)?;
     }
     Ok(())
 }
@@ -413,7 +417,8 @@ fn commands_alerts_and_downtimes_are_written(rt: HostRuntime) -> Result<(), Fail
 
 fn entry_at(alloc: Global, time: u64) -> Result<LogEntry, AllocError>
     requires { time < TIME_LIMIT }
-    ensures { IfOk result (λ entry. entry.time ≡ time) }
+    ensures time { IfOk result (λ entry. entry.time ≡ time) }
+    ensures line { IfOk result IsOfLine }
 {
     let text = Text::new(alloc, "ENABLE_NOTIFICATIONS")?;
     make_line(alloc, time, &Form::External { text })
@@ -435,5 +440,7 @@ fn a_book_takes_entries(rt: HostRuntime) -> Result<(), Fail> {
     assert!(rt; book.reserve(usize::MAX).is_err());
     assert!(rt; book.len() == 3);
     assert!(rt; !book.is_empty());
+    assert!(rt; book.entries().len() == 3);
+    assert!(rt; book.entries().last().map(|entry| entry.time) == Some(999_999_999_999));
     Ok(())
 }

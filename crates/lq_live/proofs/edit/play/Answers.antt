@@ -12,5 +12,5 @@ edits-preserved c =
       timely = subst (λ s. Timely (last_time s.log) c.next.new.self.rest.items) (sym c.make_edit.ensures.state)
           (timely_next c.in-Some.edit c.next.new.self.rest.items (state_of c.edits.live) (rw c.in-Some.ensures.steps.0 at c.edits.invariant.timely));
       room = c.make_edit.ensures.room (length c.next.new.self.rest.items) (room_less c.edits.live _ _ longer c.edits.invariant.room);
-      index = λ kept. c.make_edit.ensures.index (c.edits.invariant.index kept);
+      index = c.make_edit.ensures.index;
     }

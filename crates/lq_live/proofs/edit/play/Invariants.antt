@@ -9,5 +9,5 @@ invariant-edits l = record {
   left : play_edits l.edit-iterator.rest.items (state_of l.live) ≡ play_edits l.fn.edits.items (state_of l.initial.live);
   timely : Timely (last_time l.live.log.entries) l.edit-iterator.rest.items;
   room : HasRoom l.live (length l.edit-iterator.rest.items);
-  index : IsIndexed l.initial.live → IsIndexed l.live;
+  index : IsIndexed l.live;
 }

@@ -1,6 +1,6 @@
 use Rattle.std.proofs.Common.{rules}
 use Rattle.std.proofs.lemmas.List.Sorted.{answers_always}
-use Rattle.lq_live.specs.declared.event.Event.{Event}
+use Rattle.lq_live.specs.Downtimes.{Event}
 use Rattle.lq_live.specs.declared.event.EventOrder.{EventOrder}
 use Rattle.lq_live.proofs.event.sort.Goals as goal
 

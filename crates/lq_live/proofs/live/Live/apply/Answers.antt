@@ -17,17 +17,17 @@ play-requires-clause-timely c =
 pub overflow_add-self : goal.overflow_add-self
 overflow_add-self c = omega (arith, c.self.invariant.count, c.in_ok-reserve.ensures.lines, ap (λ s. length s.log) c.reserve.ensures.kept)
 
-next : (c : goal.After-self-1) → state_of c.look_ahead.new.live ≡ step (state_of c.self.inside.state) c.args.u.now
-next c = c.look_ahead.ensures.state
-    ∙ step_for (state_of c.self.inside.state) (state_of c.reserve.new.live) (state_of c.play.new.live) c.args.u.now c.in_ok-edits.edits.items
+next : (c : goal.After-self-1) → state_of c.play.new.live ≡ step (state_of c.self.inside.state) c.args.u.now
+next c =
+    step_for (state_of c.self.inside.state) (state_of c.reserve.new.live) (state_of c.play.new.live) c.args.u.now c.in_ok-edits.edits.items
     c.in_ok-edits.ensures.plays c.reserve.ensures.kept c.play.ensures.state
 
 pub invariant_of-self-2 : goal.invariant_of-self-2
 invariant_of-self-2 c = record {
-  sound = subst IsSound (sym (ap (λ (s : State). s.base) (next c) ∙ step_base (state_of c.self.inside.state) c.args.u.now)) c.self.invariant.sound;
+  sound = subst IsSound (sym (ap (λ (s : State). s.base) (next c) ∙ step_base (state_of c.self.inside.state) c.args.u.now c.self.invariant.state.ids c.self.invariant.state.order)) c.self.invariant.sound;
   state = rw (next c) (step_kept (state_of c.self.inside.state) c.args.u.now c.self.invariant.state);
   count = omega (arith, c.self.invariant.count, ap (λ s. length s.log) (next c), step_longer (state_of c.self.inside.state) c.args.u.now c.self.invariant.state);
-  index = c.look_ahead.ensures.index (c.play.ensures.index (c.reserve.ensures.index c.self.invariant.index));
+  index = c.play.ensures.index;
 }
 
 pub returns-clause-ok : goal.returns-clause-ok
@@ -54,5 +54,5 @@ returns-clause-second c = omega (
 
 pub returns-clause-front : goal.returns-clause-front
 returns-clause-front c =
-    subst (λ log. IsFront log c.look_ahead.new.live.log.entries) (ap (λ (live : Counted). live.state.log) c.self.view_is)
-    (subst (λ (s : State). IsFront c.self.inside.state.log.entries s.log) (sym (next c)) (step_front (state_of c.self.inside.state) c.args.u.now))
+    subst (λ log. IsFront log c.play.new.live.log.entries) (ap (λ (live : Counted). live.state.log) c.self.view_is)
+    (subst (λ (s : State). IsFront c.self.inside.state.log.entries s.log) (sym (next c)) (step_front (state_of c.self.inside.state) c.args.u.now c.self.invariant.state.ids c.self.invariant.state.order))
