@@ -1,6 +1,7 @@
 -- The value that each column has of a host and of a service.
-use Rattle.std.specs.Prelude.{ℕ, ℤ, pos, ◌==◌, ◌&&◌, Option, Some, None, List, length, map, filter, if◌then◌else◌}
+use Rattle.std.specs.Prelude.{ℕ, ℤ, pos, ◌==◌, ◌&&◌, Option, List, length, map, filter, if◌then◌else◌}
 use Rattle.std.specs.List.{slice_get}
+use Rattle.std.specs.Option.{option_map, option_and_then}
 use Rattle.std.specs.Ordering.{int_eq}
 use Rattle.lq_records.specs.declared.base.Base.{Base}
 use Rattle.lq_records.specs.declared.base.ObjectFields.{ObjectFields}
@@ -24,10 +25,7 @@ use Rattle.lq_schema.specs.declared.host.HostColumn.{HostColumn}
 use Rattle.lq_schema.specs.declared.host.HostColumn.TheVariants as host_column
 use Rattle.lq_schema.specs.declared.service.ServiceColumn.{ServiceColumn}
 use Rattle.lq_schema.specs.declared.service.ServiceColumn.TheVariants as service_column
-use Rattle.lq_schema.specs.declared.columns.OwnColumn.{OwnColumn}
-use Rattle.lq_schema.specs.declared.columns.OwnColumn.TheVariants as own
-use Rattle.lq_schema.specs.Value.{Value, Number, Words, Texts, Numbers, empty_value}
-use Rattle.lq_schema.specs.Kinds.{host_kind, own_kind, service_kind}
+use Rattle.lq_schema.specs.Value.{Value, Number, Words, Texts, Numbers}
 use Rattle.lq_live.specs.State.{State}
 use Rattle.lq_records.specs.Object.{is_same_object}
 use Rattle.lq_columns.specs.Names.{child_names_of, contact_group_names_of, contact_names_of, contacts_of, descriptions_of, group_names_of, host_names_of, variable_names_of, variable_values_of}
@@ -35,6 +33,8 @@ use Rattle.lq_columns.specs.Counts.{hosts_counted, services_counted, worst_host,
 use Rattle.lq_columns.specs.declared.scope.Scope.{Scope}
 use Rattle.lq_columns.specs.declared.scope.Scope.TheVariants as scope
 use Rattle.lq_columns.specs.declared.counted.Counted.TheVariants as counted
+use Rattle.lq_columns.specs.declared.host.HostRow.{HostRow}
+use Rattle.lq_columns.specs.declared.service.ServiceRow.{ServiceRow}
 
 -- a number that is never below 0
 abbrev pub natural : ℕ → Value
@@ -134,48 +134,60 @@ hosts_cell s group host_counter.WorstHostState = natural (worst_host s group)
 
 -- ---- hosts
 
-abbrev pub host_cell : State → HostId → Host → Status → HostColumn → Value
-host_cell s id host status host_column.Name = Words host.host_name
-host_cell s id host status host_column.Alias = Words host.alias
-host_cell s id host status host_column.Address = Words host.address
-host_cell s id host status (host_column.Object column) =
-    object_cell s.base (object.Host id) host.fields column
-host_cell s id host status host_column.Parents = Texts (host_names_of s.base host.parents)
-host_cell s id host status host_column.Childs = Texts (child_names_of s.base id)
-host_cell s id host status host_column.Services = Texts (descriptions_of s.base id)
-host_cell s id host status (host_column.Status column) =
-    status_cell s (object.Host id) status column
-host_cell s id host status (host_column.Counter column) = services_cell s (scope.Host id) column
+-- a host of a state: its id, what the object file says of it, and its status
+pub record HostRecord : Type 0 where
+  pub id : HostId
+  pub host : Host
+  pub status : Status
 
-abbrev pub host_at : State → HostId → Option Host → Option Status → HostColumn → Value
-host_at s id (Some host) (Some status) column = host_cell s id host status column
-host_at s id (Some host) None column = empty_value (host_kind column)
-host_at s id None status column = empty_value (host_kind column)
+-- what the row of a host says
+abbrev pub host_record : HostRow → HostRecord
+host_record row = record { id = row.id; host = row.host.now; status = row.status.now }
 
--- the value of a column of a host; the empty value where the base has no such host, or the column
--- is of something else
-abbrev pub host_value : State → HostId → OwnColumn → Value
-host_value s id (own.Host column) =
-    host_at s id (slice_get s.base.hosts id.0) (slice_get s.host_status id.0) column
-host_value s id column = empty_value (own_kind column)
+-- the host with an id
+abbrev pub host_at : State → HostId → Option HostRecord
+host_at s id =
+    option_and_then (λ host.
+    option_map (λ status. record { id = id; host = host; status = status })
+    (slice_get s.host_status id.0))
+    (slice_get s.base.hosts id.0)
+
+abbrev pub host_cell : State → HostRecord → HostColumn → Value
+host_cell s about host_column.Name = Words about.host.host_name
+host_cell s about host_column.Alias = Words about.host.alias
+host_cell s about host_column.Address = Words about.host.address
+host_cell s about (host_column.Object column) =
+    object_cell s.base (object.Host about.id) about.host.fields column
+host_cell s about host_column.Parents = Texts (host_names_of s.base about.host.parents)
+host_cell s about host_column.Childs = Texts (child_names_of s.base about.id)
+host_cell s about host_column.Services = Texts (descriptions_of s.base about.id)
+host_cell s about (host_column.Status column) =
+    status_cell s (object.Host about.id) about.status column
+host_cell s about (host_column.Counter column) = services_cell s (scope.Host about.id) column
 
 -- ---- services
 
-abbrev pub service_cell : State → ServiceId → Service → Status → ServiceColumn → Value
-service_cell s id service status service_column.Description = Words service.service_description
-service_cell s id service status (service_column.Object column) =
-    object_cell s.base (object.Service id) service.fields column
-service_cell s id service status (service_column.Status column) =
-    status_cell s (object.Service id) status column
+-- a service of a state: its id, what the object file says of it, and its status
+pub record ServiceRecord : Type 0 where
+  pub id : ServiceId
+  pub service : Service
+  pub status : Status
 
-abbrev pub service_at : State → ServiceId → Option Service → Option Status → ServiceColumn → Value
-service_at s id (Some service) (Some status) column = service_cell s id service status column
-service_at s id (Some service) None column = empty_value (service_kind column)
-service_at s id None status column = empty_value (service_kind column)
+-- what the row of a service says
+abbrev pub service_record : ServiceRow → ServiceRecord
+service_record row = record { id = row.id; service = row.service.now; status = row.status.now }
 
--- the value of a column of a service; the empty value where the base has no such service, or the
--- column is of something else
-abbrev pub service_value : State → ServiceId → OwnColumn → Value
-service_value s id (own.Service column) =
-    service_at s id (slice_get s.base.services id.0) (slice_get s.service_status id.0) column
-service_value s id column = empty_value (own_kind column)
+-- the service with an id
+abbrev pub service_at : State → ServiceId → Option ServiceRecord
+service_at s id =
+    option_and_then (λ service.
+    option_map (λ status. record { id = id; service = service; status = status })
+    (slice_get s.service_status id.0))
+    (slice_get s.base.services id.0)
+
+abbrev pub service_cell : State → ServiceRecord → ServiceColumn → Value
+service_cell s about service_column.Description = Words about.service.service_description
+service_cell s about (service_column.Object column) =
+    object_cell s.base (object.Service about.id) about.service.fields column
+service_cell s about (service_column.Status column) =
+    status_cell s (object.Service about.id) about.status column

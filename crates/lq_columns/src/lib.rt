@@ -20,7 +20,7 @@ mod status;
 
 pub use counters::{hosts_value, services_value};
 pub use empty::{empty_number, empty_text, empty_value};
-pub use host::{host_number, host_text, host_value};
+pub use host::HostRow;
 pub use names::{Named, names_of};
 pub use scope::Scope;
-pub use service::{service_number, service_text, service_value};
+pub use service::ServiceRow;

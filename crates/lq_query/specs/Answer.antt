@@ -12,22 +12,22 @@ use Rattle.lq_query.specs.declared.reply.Reply.{Reply}
 
 -- ---- lines
 
-abbrev pub line_of : State → List Col → Row → List (List ℕ)
-line_of s columns row = map (λ column. cell_text (cell_of s row column)) columns
+abbrev pub row_line : State → List Col → Row → List (List ℕ)
+row_line s columns row = map (λ column. cell_text (cell_of s row column)) columns
 
 -- the names of the columns
-abbrev pub names_of : List Col → List (List ℕ)
-names_of columns = map full_name columns
+abbrev pub column_names : List Col → List (List ℕ)
+column_names columns = map full_name columns
 
 abbrev pub with_names : Bool → List Col → List (List (List ℕ)) → List (List (List ℕ))
-with_names true columns rows = names_of columns ∷ rows
+with_names true columns rows = column_names columns ∷ rows
 with_names false columns rows = rows
 
 -- the columns' names where they are asked for, then a line for each row of the table
-abbrev pub lines_of : Request → State → List (List (List ℕ))
-lines_of request s =
+abbrev pub reply_lines : Request → State → List (List (List ℕ))
+reply_lines request s =
     with_names request.head request.columns
-    (map (line_of s request.columns) (rows_of s request.table))
+    (map (row_line s request.columns) (rows_of s request.table))
 
 -- ---- text
 
@@ -42,4 +42,4 @@ limited body =
     else record { code = 200; bytes = body }
 
 abbrev pub answer_of : Request → State → Reply
-answer_of request s = limited (csv (lines_of request s))
+answer_of request s = limited (csv (reply_lines request s))

@@ -3,7 +3,6 @@ use Rattle.std.specs.Prelude.{◌≡◌, ℕ, ◌<◌, ◌≤◌, Bool, true, fa
 use Rattle.std.specs.Global.{Vec}
 use Rattle.lq_schema.specs.Names.{full_name}
 use Rattle.lq_schema.specs.declared.columns.Col.{Col}
-use Rattle.lq_live.specs.State.{State}
 use Rattle.lq_tables.specs.Cells.{cell_of}
 use Rattle.lq_query.specs.Answer.{reply_limit}
 use Rattle.lq_query.specs.Csv.{cell_text}
@@ -11,12 +10,12 @@ use Rattle.lq_query.specs.declared.page.Line.{Line}
 use Rattle.lq_query.specs.declared.page.Line.TheVariants as line
 
 -- the text of a line's cell, and those of all its cells
-abbrev pub text_of : State → Line → Col → List ℕ
-text_of s line.Names column = full_name column
-text_of s (line.Row row) column = cell_text (cell_of s row column)
+abbrev pub line_cell : Line → Col → List ℕ
+line_cell line.Names column = full_name column
+line_cell (line.Row cells) column = cell_text (cell_of cells.now.state cells.now.row column)
 
-abbrev pub texts_of : State → Line → List Col → List (List ℕ)
-texts_of s line columns = map (text_of s line) columns
+abbrev pub line_cells : Line → List Col → List (List ℕ)
+line_cells line columns = map (line_cell line) columns
 
 -- a body is there where it isn't too large
 abbrev pub IsBody : Option (Vec ℕ) → List ℕ → Type 0

@@ -1,5 +1,5 @@
 ghost use Rattle.std.specs.Prelude.{◌≡◌, IfOk};
-ghost use Rattle.lq_query.specs.Answer.{answer_of, lines_of};
+ghost use Rattle.lq_query.specs.Answer.{answer_of, reply_lines};
 ghost use Rattle.lq_query.specs.Body.{IsBody};
 ghost use Rattle.lq_query.specs.Csv.{csv};
 
@@ -49,7 +49,7 @@ pub fn answer(alloc: Global, live: &Live, request: &Request) -> Result<Reply, Me
 
 /// The line of the names and the lines of the rows. None where they have too many bytes.
 fn body(alloc: Global, live: &Live, request: &Request) -> Result<Option<Vec<u8>>, Memory>
-    ensures { IfOk result (λ body. IsBody body (csv (lines_of request.now live.now.state))) }
+    ensures { IfOk result (λ body. IsBody body (csv (reply_lines request.now live.now.state))) }
 {
     let columns = shown_columns(alloc, request.columns.as_slice())?;
     let page = Page {

@@ -1,5 +1,5 @@
 -- What a row is about.
-use Rattle.std.specs.Prelude.{ℕ, ◌==◌, Option, Some, None, List}
+use Rattle.std.specs.Prelude.{◌≡◌, ℕ, ◌==◌, Option, Some, None, List}
 use Rattle.std.specs.List.{find, slice_get}
 use Rattle.std.specs.Option.{option_map, option_and_then}
 use Rattle.lq_records.specs.declared.base.Base.{Base}
@@ -8,20 +8,19 @@ use Rattle.lq_records.specs.declared.base.Contact.{Contact}
 use Rattle.lq_records.specs.declared.base.ContactGroup.{ContactGroup}
 use Rattle.lq_records.specs.declared.base.Period.{Period}
 use Rattle.lq_records.specs.declared.ids.HostGroupId.{HostGroupId}
-use Rattle.lq_records.specs.declared.ids.HostId.{HostId}
 use Rattle.lq_records.specs.declared.ids.ServiceGroupId.{ServiceGroupId}
-use Rattle.lq_records.specs.declared.ids.ServiceId.{ServiceId}
 use Rattle.lq_events.specs.declared.status.Comment.{Comment}
 use Rattle.lq_events.specs.declared.status.Downtime.{Downtime}
 use Rattle.lq_records.specs.declared.object.Object.{Object}
 use Rattle.lq_records.specs.declared.object.Object.TheVariants as object
 use Rattle.lq_live.specs.State.{State}
+use Rattle.lq_columns.specs.Cells.{HostRecord, ServiceRecord, host_at, service_at}
 use Rattle.lq_tables.specs.Schema.{schema}
 use Rattle.lq_tables.specs.declared.row.Row.{Row}
 use Rattle.lq_tables.specs.declared.row.Row.TheVariants as row
 use Rattle.lq_tables.specs.declared.schema.Entry.{Entry}
 
--- ---- the object of a downtime or a comment
+-- ---- downtimes and comments
 
 -- the first downtime with an id
 abbrev pub downtime_with : ℕ → List Downtime → Option Downtime
@@ -39,42 +38,48 @@ abbrev pub row_comment : State → Row → Option Comment
 row_comment s (row.Comment id) = comment_with id s.comments
 row_comment s row = None
 
--- the host or service that a downtime's or a comment's row is about
+-- ---- hosts and services
+
+-- the host or service that a row is about; a downtime and a comment are about that of their own
 abbrev pub row_object : State → Row → Option Object
+row_object s (row.Host id) = Some (object.Host id)
+row_object s (row.HostOf group id) = Some (object.Host id)
+row_object s (row.Service id) = Some (object.Service id)
+row_object s (row.ServiceOf group id) = Some (object.Service id)
+row_object s (row.GroupService group id) = Some (object.Service id)
 row_object s (row.Downtime id) =
     option_map (λ downtime. downtime.object) (downtime_with id s.downtimes)
 row_object s (row.Comment id) = option_map (λ comment. comment.object) (comment_with id s.comments)
 row_object s row = None
 
--- ---- hosts and services
+-- the service itself
+abbrev pub service_of_object : State → Object → Option ServiceRecord
+service_of_object s (object.Host id) = None
+service_of_object s (object.Service id) = service_at s id
 
--- the host that a service runs on
-abbrev pub host_of_service : Base → ServiceId → Option HostId
-host_of_service base id = option_map (λ service. service.host) (slice_get base.services id.0)
-
-abbrev pub host_of_object : Base → Object → Option HostId
-host_of_object base (object.Host id) = Some id
-host_of_object base (object.Service id) = host_of_service base id
-
-abbrev pub service_of_object : Object → Option ServiceId
-service_of_object (object.Host id) = None
-service_of_object (object.Service id) = Some id
+-- the host itself, or the one that the service runs on
+abbrev pub host_of_object : State → Object → Option HostRecord
+host_of_object s (object.Host id) = host_at s id
+host_of_object s (object.Service id) =
+    option_and_then (λ about. host_at s about.service.host) (service_at s id)
 
 -- the service that a row is about
-abbrev pub row_service : State → Row → Option ServiceId
-row_service s (row.Service id) = Some id
-row_service s (row.ServiceOf group id) = Some id
-row_service s (row.GroupService group id) = Some id
-row_service s row = option_and_then service_of_object (row_object s row)
+abbrev pub row_service : State → Row → Option ServiceRecord
+row_service s row = option_and_then (service_of_object s) (row_object s row)
 
 -- the host that a row is about, or whose service it is about
-abbrev pub row_host : State → Row → Option HostId
-row_host s (row.Host id) = Some id
-row_host s (row.HostOf group id) = Some id
-row_host s (row.Service id) = host_of_service s.base id
-row_host s (row.ServiceOf group id) = host_of_service s.base id
-row_host s (row.GroupService group id) = host_of_service s.base id
-row_host s row = option_and_then (host_of_object s.base) (row_object s row)
+abbrev pub row_host : State → Row → Option HostRecord
+row_host s row = option_and_then (host_of_object s) (row_object s row)
+
+-- a host, a service, a downtime and a comment are those that a row is about, None where it is about
+-- no such thing
+pub record IsAbout (s : State) (row : Row) (host : Option HostRecord)
+    (service : Option ServiceRecord) (downtime : Option Downtime) (comment : Option Comment)
+    : Type 0 where
+  pub host_found : host ≡ row_host s row
+  pub service_found : service ≡ row_service s row
+  pub downtime_found : downtime ≡ row_downtime s row
+  pub comment_found : comment ≡ row_comment s row
 
 -- ---- the rest of the base
 

@@ -8,21 +8,21 @@ use Rattle.lq_records.specs.declared.base.ServiceGroup.{ServiceGroup}
 use Rattle.lq_schema.specs.declared.columns.Col.{Col}
 use Rattle.lq_schema.specs.declared.contact_group.ContactGroupColumn.{ContactGroupColumn}
 use Rattle.lq_schema.specs.declared.contact_group.ContactGroupColumn.TheVariants as contact_group
+use Rattle.lq_schema.specs.declared.host.HostColumn.{HostColumn}
 use Rattle.lq_schema.specs.declared.host_group.HostGroupColumn.{HostGroupColumn}
 use Rattle.lq_schema.specs.declared.host_group.HostGroupColumn.TheVariants as host_group
 use Rattle.lq_schema.specs.declared.columns.OwnColumn.{OwnColumn}
 use Rattle.lq_schema.specs.declared.columns.OwnColumn.TheVariants as own
+use Rattle.lq_schema.specs.declared.service.ServiceColumn.{ServiceColumn}
 use Rattle.lq_schema.specs.declared.service_group.ServiceGroupColumn.{ServiceGroupColumn}
 use Rattle.lq_schema.specs.declared.service_group.ServiceGroupColumn.TheVariants as service_group
 use Rattle.lq_records.specs.declared.ids.HostGroupId.{HostGroupId}
-use Rattle.lq_records.specs.declared.ids.HostId.{HostId}
 use Rattle.lq_records.specs.declared.ids.ServiceGroupId.{ServiceGroupId}
-use Rattle.lq_records.specs.declared.ids.ServiceId.{ServiceId}
-use Rattle.lq_schema.specs.Kinds.{contact_group_kind, host_group_kind, own_kind, service_group_kind}
+use Rattle.lq_schema.specs.Kinds.{contact_group_kind, host_group_kind, host_kind, service_group_kind, service_kind}
 use Rattle.lq_schema.specs.Value.{Value, Words, Texts, Pairs, empty_value}
 use Rattle.lq_live.specs.State.{State}
 use Rattle.lq_columns.specs.Names.{contact_names_of, host_names_of}
-use Rattle.lq_columns.specs.Cells.{hosts_cell, host_value, service_value, services_cell}
+use Rattle.lq_columns.specs.Cells.{HostRecord, ServiceRecord, host_cell, hosts_cell, service_cell, services_cell}
 use Rattle.lq_columns.specs.declared.scope.Scope.TheVariants as scope
 use Rattle.lq_tables.specs.About.{row_command, row_comment, row_contact, row_contact_group, row_downtime, row_entry, row_host, row_host_group, row_period, row_service, row_service_group}
 use Rattle.lq_tables.specs.declared.row.Row.{Row}
@@ -73,21 +73,21 @@ service_group_part s (Some id) column =
 
 -- ---- hosts and services
 
-abbrev pub host_part : State → Option HostId → OwnColumn → Value
-host_part s None column = empty_value (own_kind column)
-host_part s (Some id) column = host_value s id column
+abbrev pub host_part : State → Option HostRecord → HostColumn → Value
+host_part s None column = empty_value (host_kind column)
+host_part s (Some about) column = host_cell s about column
 
-abbrev pub service_part : State → Option ServiceId → OwnColumn → Value
-service_part s None column = empty_value (own_kind column)
-service_part s (Some id) column = service_value s id column
+abbrev pub service_part : State → Option ServiceRecord → ServiceColumn → Value
+service_part s None column = empty_value (service_kind column)
+service_part s (Some about) column = service_cell s about column
 
 -- ---- all columns
 
 -- the value of a column of what it is about; the empty value of its kind where the row isn't about
 -- such a thing
 abbrev pub own_cell : State → Row → OwnColumn → Value
-own_cell s row (own.Host column) = host_part s (row_host s row) (own.Host column)
-own_cell s row (own.Service column) = service_part s (row_service s row) (own.Service column)
+own_cell s row (own.Host column) = host_part s (row_host s row) column
+own_cell s row (own.Service column) = service_part s (row_service s row) column
 own_cell s row (own.HostGroup column) = host_group_part s (row_host_group row) column
 own_cell s row (own.ServiceGroup column) = service_group_part s (row_service_group row) column
 own_cell s row (own.Contact column) = contact_cell (row_contact s.base row) column
@@ -102,3 +102,8 @@ own_cell s row (own.Schema column) = schema_cell (row_entry row) column
 
 abbrev pub cell_of : State → Row → Col → Value
 cell_of s row column = own_cell s row column.own
+
+-- a row at a state
+pub record StateRow : Type 0 where
+  pub state : State
+  pub row : Row

@@ -2,16 +2,17 @@
 
 ghost use Rattle.std.specs.Prelude.{◌≡◌};
 ghost use Rattle.std.specs.List.{slice_get};
-ghost use Rattle.std.specs.Option.{option_copied};
-ghost use Rattle.lq_tables.specs.About.{comment_with, downtime_with, host_of_object, host_of_service, row_command, row_comment, row_contact, row_contact_group, row_downtime, row_entry, row_host, row_host_group, row_object, row_period, row_service, row_service_group, service_of_object};
+ghost use Rattle.std.specs.Option.{option_and_then, option_copied, option_map};
+ghost use Rattle.lq_columns.specs.Cells.{host_record, service_record};
+ghost use Rattle.lq_tables.specs.About.{comment_with, downtime_with, host_of_object, row_command, row_comment, row_contact, row_contact_group, row_downtime, row_entry, row_host_group, row_object, row_period, row_service_group, service_of_object};
 
 use crate::row::Row;
 use crate::schema::{Entry, entry_at};
+use lq_columns::{HostRow, ServiceRow};
 use lq_events::{Comment, Downtime};
 use lq_live::Live;
 use lq_records::{
-    Base, Command, Contact, ContactGroup, HostGroupId, HostId, Object, Period, ServiceGroupId,
-    ServiceId,
+    Base, Command, Contact, ContactGroup, HostGroupId, Object, Period, ServiceGroupId,
 };
 
 // ---- downtimes and comments
@@ -56,12 +57,18 @@ fn comment_with(live: &Live, id: u64) -> Option<&Comment>
     }
 }
 
-/// The host or service that a downtime's or a comment's row is about.
-#[inline(never)]
-fn row_object(live: &Live, row: Row) -> Option<Object>
+// ---- hosts and services
+
+/// The host or service that a row is about, or its downtime or comment.
+#[inline]
+pub(crate) fn row_object(live: &Live, row: Row) -> Option<Object>
     ensures { result ≡ row_object live.now.state row }
 {
     match row {
+        Row::Host(id) | Row::HostOf(_, id) => Some(Object::Host(id)),
+        Row::Service(id) | Row::ServiceOf(_, id) | Row::GroupService(_, id) => {
+            Some(Object::Service(id))
+        }
         Row::Downtime(id) => match downtime_with(live, id) {
             Some(downtime) => Some(downtime.object),
             None => None,
@@ -74,63 +81,31 @@ fn row_object(live: &Live, row: Row) -> Option<Object>
     }
 }
 
-// ---- hosts and services
-
-/// The host that a row is about, or whose service it is about.
+/// The service that an object is.
 #[inline]
-pub(crate) fn row_host(live: &Live, row: Row) -> Option<HostId>
-    ensures { result ≡ row_host live.now.state row }
-{
-    match row {
-        Row::Host(id) | Row::HostOf(_, id) => Some(id),
-        Row::Service(id) | Row::ServiceOf(_, id) | Row::GroupService(_, id) => {
-            host_of_service(live.base(), id)
-        }
-        _ => match row_object(live, row) {
-            Some(object) => host_of_object(live.base(), object),
-            None => None,
-        },
-    }
-}
-
-/// The service that a row is about.
-#[inline]
-pub(crate) fn row_service(live: &Live, row: Row) -> Option<ServiceId>
-    ensures { result ≡ row_service live.now.state row }
-{
-    match row {
-        Row::Service(id) | Row::ServiceOf(_, id) | Row::GroupService(_, id) => Some(id),
-        _ => match row_object(live, row) {
-            Some(object) => service_of_object(object),
-            None => None,
-        },
-    }
-}
-
-fn host_of_object(base: &Base, object: Object) -> Option<HostId>
-    ensures { result ≡ host_of_object base.now object }
+pub(crate) fn service_of(live: &Live, object: Option<Object>) -> Option<ServiceRow<'_>>
+    ensures { option_map service_record result
+        ≡ option_and_then (service_of_object live.now.state) object }
 {
     match object {
-        Object::Host(id) => Some(id),
-        Object::Service(id) => host_of_service(base, id),
+        Some(Object::Service(id)) => ServiceRow::at(live, id),
+        Some(Object::Host(_)) | None => None,
     }
 }
 
-fn host_of_service(base: &Base, id: ServiceId) -> Option<HostId>
-    ensures { result ≡ host_of_service base.now id }
+/// The host that an object is, or that it runs on as a service.
+#[inline]
+pub(crate) fn host_of(live: &Live, object: Option<Object>) -> Option<HostRow<'_>>
+    ensures { option_map host_record result
+        ≡ option_and_then (host_of_object live.now.state) object }
 {
-    match base.services.as_slice().get(id.0 as usize) {
-        Some(service) => Some(service.host),
+    match object {
+        Some(Object::Host(id)) => HostRow::at(live, id),
+        Some(Object::Service(id)) => match ServiceRow::at(live, id) {
+            Some(about) => HostRow::at(live, about.service.host),
+            None => None,
+        },
         None => None,
-    }
-}
-
-fn service_of_object(object: Object) -> Option<ServiceId>
-    ensures { result ≡ service_of_object object }
-{
-    match object {
-        Object::Host(_) => None,
-        Object::Service(id) => Some(id),
     }
 }
 

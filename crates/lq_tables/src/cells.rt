@@ -1,24 +1,184 @@
 ghost use Rattle.std.specs.Prelude.{◌≡◌, IfOk, IsOk};
-ghost use Rattle.lq_columns.specs.Plain.{IsPlain};
+ghost use Rattle.std.specs.Option.{IfSome, IsSome};
+ghost use Rattle.lq_columns.specs.Plain.{IsNumber, IsText};
 ghost use Rattle.lq_schema.specs.Kinds.{own_kind};
-ghost use Rattle.lq_schema.specs.Value.{shown};
-ghost use Rattle.lq_tables.specs.Cells.{cell_of, host_part, own_cell, service_part};
-ghost use Rattle.lq_tables.specs.Light.{IsLight};
+ghost use Rattle.lq_schema.specs.Value.{Number, Words, shown};
+ghost use Rattle.lq_tables.specs.Cells.{cell_of};
+ghost use Rattle.lq_tables.specs.Light.{IsHeld, IsLight};
 
 use crate::about::{
-    row_command, row_comment, row_contact, row_contact_group, row_downtime, row_entry, row_host,
-    row_host_group, row_period, row_service, row_service_group,
+    host_of, row_command, row_comment, row_contact, row_contact_group, row_downtime, row_entry,
+    row_host_group, row_object, row_period, row_service_group, service_of,
 };
 use crate::contacts::{command_text, contact_text, period_text};
-use crate::groups::{contact_group_value, host_group_value, service_group_value};
-use crate::program::{program_value, schema_value};
-use crate::remarks::{comment_value, downtime_value};
+use crate::groups::{
+    contact_group_text, contact_group_value, host_group_text, host_group_value, service_group_text,
+    service_group_value,
+};
+use crate::program::{program_number, program_text, program_value, schema_text, schema_value};
+use crate::remarks::{
+    comment_number, comment_text, comment_value, downtime_number, downtime_text, downtime_value,
+};
 use crate::row::Row;
-use lq_columns::{empty_value, host_value, service_value};
+use lq_columns::{HostRow, ServiceRow, empty_number, empty_text, empty_value};
+use lq_events::{Comment, Downtime};
 use lq_live::Live;
-use lq_records::{HostId, Memory, ServiceId};
+use lq_records::Memory;
 use lq_schema::{Col, OwnColumn, Table, Val, kind};
 use std::alloc::Global;
+use std::marker::Model;
+
+/// The cells of a row at a state. The host, service, downtime or comment that the row is about is
+/// found once, and not again at each cell. Contracts see it as the state and the row.
+///
+/// Where the row is about nothing of a column's kind, as a host's comment about no service, its
+/// cell is 0, an empty text or an empty list.
+#[derive(Drop)]
+pub struct RowCells<'a> {
+    live: &'a Live,
+    row: Row,
+    host: Option<HostRow<'a>>,
+    service: Option<ServiceRow<'a>>,
+    downtime: Option<&'a Downtime>,
+    comment: Option<&'a Comment>,
+}
+
+impl<'a> Model for RowCells<'a> {
+    ghost use Rattle.std.specs.Option.{option_copied, option_map};
+    ghost use Rattle.lq_columns.specs.Cells.{host_record, service_record};
+    ghost use Rattle.lq_tables.specs.About.{IsAbout};
+    ghost use Rattle.lq_tables.specs.Cells.{StateRow};
+
+    ghost Value = { StateRow };
+
+    ghost view = { λ cells. record { state = cells.live.now.state; row = cells.row } };
+
+    ghost invariant = { λ cells. IsAbout cells.live.now.state cells.row
+        (option_map host_record cells.host) (option_map service_record cells.service)
+        (option_copied cells.downtime) (option_copied cells.comment) };
+}
+
+impl<'a> RowCells<'a> {
+    /// The cells of a row.
+    #[inline]
+    pub fn of(live: &'a Live, row: Row) -> RowCells<'a>
+        ensures { result ≡ record { state = live.now.state; row = row } }
+    {
+        let object = row_object(live, row);
+        RowCells {
+            live,
+            row,
+            host: host_of(live, object),
+            service: service_of(live, object),
+            downtime: row_downtime(live, row),
+            comment: row_comment(live, row),
+        }
+    }
+
+    /// The number of a cell that is found without a look at other objects, None for any other cell:
+    /// a text or a list, a counter, how many downtimes hold. It is what `value` gives, and takes no
+    /// memory.
+    #[inline]
+    pub fn number(&self, c: Col) -> Option<i128>
+        ensures value { IfSome result (λ number.
+            cell_of self.now.state self.now.row c ≡ Number number) }
+        ensures given { IsNumber (own_kind c.own) → IsHeld c.own → IsSome result }
+    {
+        match c.own {
+            OwnColumn::Host(column) => match self.host {
+                Some(host) => host.number(column),
+                None => empty_number(kind(c)),
+            },
+            OwnColumn::Service(column) => match self.service {
+                Some(service) => service.number(column),
+                None => empty_number(kind(c)),
+            },
+            OwnColumn::Downtime(column) => downtime_number(self.downtime, column),
+            OwnColumn::Comment(column) => comment_number(self.comment, column),
+            OwnColumn::Program(column) => program_number(self.live, self.row, column),
+            _ => None,
+        }
+    }
+
+    /// The text of a cell that the state holds as it is, None for any other cell: a number or a
+    /// list, and the whole name of a column, which is put together. It is what `value` gives, and
+    /// takes no memory.
+    #[inline]
+    pub fn text(&self, c: Col) -> Option<&'a str>
+        ensures value { IfSome result (λ text.
+            cell_of self.now.state self.now.row c ≡ Words text.now) }
+        ensures given { IsText (own_kind c.own) → IsLight c.own → IsSome result }
+    {
+        let (live, row) = (self.live, self.row);
+        let base = live.base();
+        match c.own {
+            OwnColumn::Host(column) => match self.host {
+                Some(host) => host.text(column),
+                None => empty_text(kind(c)),
+            },
+            OwnColumn::Service(column) => match self.service {
+                Some(service) => service.text(column),
+                None => empty_text(kind(c)),
+            },
+            OwnColumn::HostGroup(column) => host_group_text(live, row_host_group(row), column),
+            OwnColumn::ServiceGroup(column) => {
+                service_group_text(live, row_service_group(row), column)
+            }
+            OwnColumn::Contact(column) => Some(contact_text(row_contact(base, row), column)),
+            OwnColumn::ContactGroup(column) => {
+                contact_group_text(row_contact_group(base, row), column)
+            }
+            OwnColumn::Command(column) => Some(command_text(row_command(base, row), column)),
+            OwnColumn::Period(column) => Some(period_text(row_period(base, row), column)),
+            OwnColumn::Downtime(column) => downtime_text(self.downtime, column),
+            OwnColumn::Comment(column) => comment_text(self.comment, column),
+            OwnColumn::Program(column) => program_text(row, column),
+            OwnColumn::Schema(column) => schema_text(row_entry(row), column),
+        }
+    }
+
+    /// The value of a cell. Lists, and the names of columns, take memory, and running out of it is
+    /// the only error.
+    pub fn value(&self, alloc: Global, c: Col) -> Result<Val<'a>, Memory>
+        ensures value { IfOk result (λ v. shown v ≡ cell_of self.now.state self.now.row c) }
+        ensures plain { IsLight c.own → IsOk result }
+    {
+        let (live, row) = (self.live, self.row);
+        let base = live.base();
+        match c.own {
+            OwnColumn::Host(column) => match self.host {
+                Some(host) => host.value(alloc, live, column),
+                None => Ok(empty_value(alloc, kind(c))),
+            },
+            OwnColumn::Service(column) => match self.service {
+                Some(service) => service.value(alloc, live, column),
+                None => Ok(empty_value(alloc, kind(c))),
+            },
+            OwnColumn::HostGroup(column) => {
+                host_group_value(alloc, live, row_host_group(row), column)
+            }
+            OwnColumn::ServiceGroup(column) => {
+                service_group_value(alloc, live, row_service_group(row), column)
+            }
+            OwnColumn::Contact(column) => {
+                Ok(Val::Str(contact_text(row_contact(base, row), column)))
+            },
+            OwnColumn::ContactGroup(column) => {
+                contact_group_value(alloc, base, row_contact_group(base, row), column)
+            }
+            OwnColumn::Command(column) => {
+                Ok(Val::Str(command_text(row_command(base, row), column)))
+            },
+            OwnColumn::Period(column) => {
+                Ok(Val::Str(period_text(row_period(base, row), column)))
+            },
+            OwnColumn::Downtime(column) => Ok(downtime_value(alloc, self.downtime, column)),
+            OwnColumn::Comment(column) => Ok(comment_value(alloc, self.comment, column)),
+            OwnColumn::Program(column) => Ok(program_value(alloc, live, row, column)),
+            OwnColumn::Schema(column) => schema_value(alloc, row_entry(row), column),
+        }
+    }
+}
 
 /// The value that a row of a table has in a column. Where the row is about nothing of the column's
 /// kind, as a host's comment about no service, it is 0, an empty text or an empty list. Lists, and
@@ -33,60 +193,5 @@ pub fn cell<'a>(
     ensures value { IfOk result (λ v. shown v ≡ cell_of live.now.state r.now c) }
     ensures plain { IsLight c.own → IsOk result }
 {
-    let row = *r;
-    let base = live.base();
-    match c.own {
-        OwnColumn::Host(_) => host_cell(alloc, live, c, row_host(live, row)),
-        OwnColumn::Service(_) => service_cell(alloc, live, c, row_service(live, row)),
-        OwnColumn::HostGroup(column) => {
-            host_group_value(alloc, live, row_host_group(row), column)
-        }
-        OwnColumn::ServiceGroup(column) => {
-            service_group_value(alloc, live, row_service_group(row), column)
-        }
-        OwnColumn::Contact(column) => {
-            Ok(Val::Str(contact_text(row_contact(base, row), column)))
-        },
-        OwnColumn::ContactGroup(column) => {
-            contact_group_value(alloc, base, row_contact_group(base, row), column)
-        }
-        OwnColumn::Command(column) => {
-            Ok(Val::Str(command_text(row_command(base, row), column)))
-        },
-        OwnColumn::Period(column) => { Ok(Val::Str(period_text(row_period(base, row), column))) },
-        OwnColumn::Downtime(column) => Ok(downtime_value(alloc, row_downtime(live, row), column)),
-        OwnColumn::Comment(column) => Ok(comment_value(alloc, row_comment(live, row), column)),
-        OwnColumn::Program(column) => Ok(program_value(alloc, live, row, column)),
-        OwnColumn::Schema(column) => schema_value(alloc, row_entry(row), column),
-    }
-}
-
-fn host_cell<'a>(
-    alloc: Global,
-    live: &'a Live,
-    c: Col,
-    id: Option<HostId>,
-) -> Result<Val<'a>, Memory>
-    ensures value { IfOk result (λ v. shown v ≡ host_part live.now.state id c.own) }
-    ensures plain { IsPlain (own_kind c.own) → IsOk result }
-{
-    match id {
-        Some(id) => host_value(alloc, live, c, id),
-        None => Ok(empty_value(alloc, kind(c))),
-    }
-}
-
-fn service_cell<'a>(
-    alloc: Global,
-    live: &'a Live,
-    c: Col,
-    id: Option<ServiceId>,
-) -> Result<Val<'a>, Memory>
-    ensures value { IfOk result (λ v. shown v ≡ service_part live.now.state id c.own) }
-    ensures plain { IsPlain (own_kind c.own) → IsOk result }
-{
-    match id {
-        Some(id) => service_value(alloc, live, c, id),
-        None => Ok(empty_value(alloc, kind(c))),
-    }
+    RowCells::of(live, *r).value(alloc, c)
 }

@@ -8,14 +8,12 @@ mod groups;
 mod listed;
 mod listing;
 mod pairs;
-mod plain;
 mod program;
 mod remarks;
 mod row;
 mod schema;
 mod value;
 
-pub use cells::cell;
+pub use cells::{RowCells, cell};
 pub use listing::{Rows, rows};
-pub use plain::{number_cell, text_cell};
 pub use row::Row;

@@ -2,7 +2,7 @@
 //! groups.
 
 use crate::fixture::{SITE, Site, Step, assert_replies, assert_steps};
-use lq_columns::service_value;
+use lq_columns::{HostRow, ServiceRow};
 use lq_live::Live;
 use lq_records::{
     CommandId, ContactGroupId, ContactId, HostGroupId, HostId, PeriodId, ServiceGroupId, ServiceId,
@@ -196,14 +196,18 @@ fn something(
     Ok(None)
 }
 
-/// Reads each such row, and a column of hosts of a service, which has none.
+/// Reads each such row, the host and the service after the last ones, and a column of services of a
+/// host, which has none.
 fn assert_nothing<R: Abort + AllocGlobal>(rt: &R, live: &Live) -> Result<(), Fail> {
     for (table, row) in NOWHERE {
         let found = something(rt.alloc(), live, *table, row)?;
         assert!(rt; found.is_none(), "{} has {found:?}", table.name());
     }
-    let name = column(Table::Hosts, "name").ok_or("no column")?;
-    assert!(rt; is_nothing(&service_value(rt.alloc(), live, name, ServiceId(0))?));
+    assert!(rt; HostRow::at(live, HostId(2)).is_none());
+    assert!(rt; ServiceRow::at(live, ServiceId(3)).is_none());
+    let description = column(Table::Services, "description").ok_or("no column")?;
+    let host = Row::Host(HostId(0));
+    assert!(rt; is_nothing(&cell(rt.alloc(), live, Table::Hosts, description, &host)?));
     Ok(())
 }
 
