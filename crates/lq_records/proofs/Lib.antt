@@ -1,1 +1,2 @@
 pub mod CleanLemmas
+pub mod KeyLemmas

@@ -1,3 +1,4 @@
 pub mod Clean
 pub mod Object
 pub mod Sound
+pub mod Named

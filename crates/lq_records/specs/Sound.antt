@@ -17,8 +17,8 @@ pub record ArePlaces (count : ℕ) (places : List ℕ) : Type 0 where
   pub within : All (λ place. place < count) places
 
 -- a name has no `;`, whose byte is 59
-abbrev pub IsPlain : List ℕ → Type 0
-IsPlain name = list_any (λ byte. byte == 59) name ≡ false
+abbrev pub HasNoSemicolon : List ℕ → Type 0
+HasNoSemicolon name = list_any (λ byte. byte == 59) name ≡ false
 
 -- ---- objects
 
@@ -53,8 +53,8 @@ pub record AreNamed (base : Base) : Type 0 where
   pub contact_groups : AreNames (map (λ group. group.contactgroup_name) base.contact_groups)
   pub periods : AreNames (map (λ period. period.timeperiod_name) base.periods)
   pub commands : AreNames (map (λ command. command.command_name) base.commands)
-  pub plain_hosts : All (λ host. IsPlain host.host_name) base.hosts
-  pub plain_services : All (λ service. IsPlain service.service_description) base.services
+  pub plain_hosts : All (λ host. HasNoSemicolon host.host_name) base.hosts
+  pub plain_services : All (λ service. HasNoSemicolon service.service_description) base.services
 
 pub record AreLinked (base : Base) : Type 0 where
   pub parents :

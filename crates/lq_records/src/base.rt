@@ -2,6 +2,7 @@ ghost use Rattle.std.specs.Prelude.{◌≡◌, true, false};
 
 use crate::ids::{ContactGroupId, ContactId, HostId, ServiceId};
 use crate::items::Items;
+use crate::named::{NamedItems, NamedObject};
 use crate::text::Text;
 
 /// The directives that hosts and services share.
@@ -52,6 +53,20 @@ pub struct Host {
     pub fields: ObjectFields,
 }
 
+impl NamedObject for Host {
+    ghost owner_of = { λ _. 0 };
+
+    ghost name_of = { λ item. item.host_name };
+
+    fn owner(&self) -> u32 {
+        0
+    }
+
+    fn name(&self) -> &Text {
+        &self.host_name
+    }
+}
+
 /// A service as the object file says it.
 #[derive(Drop)]
 pub struct Service {
@@ -61,6 +76,20 @@ pub struct Service {
     pub service_description: Text,
     /// What it shares with hosts.
     pub fields: ObjectFields,
+}
+
+impl NamedObject for Service {
+    ghost owner_of = { λ service. service.host.0 };
+
+    ghost name_of = { λ item. item.service_description };
+
+    fn owner(&self) -> u32 {
+        self.host.0
+    }
+
+    fn name(&self) -> &Text {
+        &self.service_description
+    }
 }
 
 /// A group of hosts.
@@ -76,6 +105,20 @@ pub struct HostGroup {
     pub action_url: Text,
 }
 
+impl NamedObject for HostGroup {
+    ghost owner_of = { λ _. 0 };
+
+    ghost name_of = { λ item. item.hostgroup_name };
+
+    fn owner(&self) -> u32 {
+        0
+    }
+
+    fn name(&self) -> &Text {
+        &self.hostgroup_name
+    }
+}
+
 /// A group of services.
 #[derive(Drop)]
 pub struct ServiceGroup {
@@ -87,6 +130,20 @@ pub struct ServiceGroup {
     pub notes: Text,
     pub notes_url: Text,
     pub action_url: Text,
+}
+
+impl NamedObject for ServiceGroup {
+    ghost owner_of = { λ _. 0 };
+
+    ghost name_of = { λ item. item.servicegroup_name };
+
+    fn owner(&self) -> u32 {
+        0
+    }
+
+    fn name(&self) -> &Text {
+        &self.servicegroup_name
+    }
 }
 
 /// Who is told about hosts and services, and may see them.
@@ -103,6 +160,20 @@ pub struct Contact {
     pub service_notification_period: Text,
 }
 
+impl NamedObject for Contact {
+    ghost owner_of = { λ _. 0 };
+
+    ghost name_of = { λ item. item.contact_name };
+
+    fn owner(&self) -> u32 {
+        0
+    }
+
+    fn name(&self) -> &Text {
+        &self.contact_name
+    }
+}
+
 /// A group of contacts.
 #[derive(Drop)]
 pub struct ContactGroup {
@@ -111,6 +182,20 @@ pub struct ContactGroup {
     pub alias: Text,
     /// The contacts in the group, in the order of the directive.
     pub members: Items<ContactId>,
+}
+
+impl NamedObject for ContactGroup {
+    ghost owner_of = { λ _. 0 };
+
+    ghost name_of = { λ item. item.contactgroup_name };
+
+    fn owner(&self) -> u32 {
+        0
+    }
+
+    fn name(&self) -> &Text {
+        &self.contactgroup_name
+    }
 }
 
 /// A time period.
@@ -155,17 +240,17 @@ impl Default for Rules {
 #[derive(Drop)]
 pub struct Base {
     /// At most 10,000.
-    pub hosts: Items<Host>,
+    pub hosts: NamedItems<Host>,
     /// At most 60,000.
-    pub services: Items<Service>,
+    pub services: NamedItems<Service>,
     /// At most 1,000.
-    pub host_groups: Items<HostGroup>,
+    pub host_groups: NamedItems<HostGroup>,
     /// At most 1,000.
-    pub service_groups: Items<ServiceGroup>,
+    pub service_groups: NamedItems<ServiceGroup>,
     /// At most 10,000.
-    pub contacts: Items<Contact>,
+    pub contacts: NamedItems<Contact>,
     /// At most 1,000.
-    pub contact_groups: Items<ContactGroup>,
+    pub contact_groups: NamedItems<ContactGroup>,
     /// At most 1,000.
     pub periods: Items<Period>,
     /// At most 10,000.

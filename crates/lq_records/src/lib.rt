@@ -5,6 +5,8 @@ mod base;
 mod clean;
 mod ids;
 mod items;
+mod name_key;
+mod named;
 mod object;
 mod refusal;
 mod text;
@@ -19,6 +21,7 @@ pub use ids::{
     ServiceId,
 };
 pub use items::Items;
+pub use named::{NamedItems, NamedObject};
 pub use object::{Object, ObjectKind};
 pub use refusal::Refusal;
 pub use text::Text;
