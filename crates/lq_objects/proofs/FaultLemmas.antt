@@ -12,7 +12,7 @@ use Rattle.std.proofs.lemmas.Slice.Eq.{bytes_eq-Decides}
 use Rattle.lq_objects.specs.Blocks.{Line, Part, opened_word}
 use Rattle.lq_objects.specs.Kinds.{kind_named, kind_word, limit}
 use Rattle.lq_names.specs.Names.{Name, is_same}
-use Rattle.lq_objects.specs.Names.{Block, is_of, name_of, names_of}
+use Rattle.lq_objects.specs.Names.{Block, is_of, name_of, block_names}
 use Rattle.lq_objects.specs.Faults.{block_fault, block_of, blocks_of, ending_fault, fault_if, first_of, inner_fault, is_bad_name, lacks_name, name_fault, part_fault, parts_fault, known_block}
 use Rattle.lq_objects.specs.declared.kind.Kind.{Kind}
 use Rattle.lq_objects.specs.declared.kind.Kind.TheVariants.{Host, Service, HostGroup, ServiceGroup, Contact, ContactGroup, Period, Command}
@@ -90,10 +90,10 @@ AreFine-push kind names name fine new = record {
 
 -- the objects of each kind have good names
 abbrev pub AllFine : List Block → Type 0
-AllFine blocks = (kind : Kind) → AreFine kind (names_of blocks kind)
+AllFine blocks = (kind : Kind) → AreFine kind (block_names blocks kind)
 
-pub names_of-append : (before more : List Block) (kind : Kind) → names_of (before ++ more) kind ≡ names_of before kind ++ names_of more kind
-names_of-append before more kind =
+pub block_names-append : (before more : List Block) (kind : Kind) → block_names (before ++ more) kind ≡ block_names before kind ++ block_names more kind
+block_names-append before more kind =
     ap (map (λ block. name_of kind block.lines)) (filter-append (is_of kind) before more)
     ∙ map-append (λ (block : Block). name_of kind block.lines) (filter (is_of kind) before) (filter (is_of kind) more)
 
@@ -101,40 +101,40 @@ AllFine-none : (before : List Block) → AllFine before → AllFine (before ++ [
 AllFine-none before fine = subst AllFine (sym (append-nil before)) fine
 
 AllFine-push : (before : List Block) (block : Block) → AllFine before
-    → IsNew block.kind (names_of before block.kind) (name_of block.kind block.lines) → AllFine (before ++ block ∷ [])
+    → IsNew block.kind (block_names before block.kind) (name_of block.kind block.lines) → AllFine (before ++ block ∷ [])
 AllFine-push before block fine new kind =
-    subst (AreFine kind) (sym (names_of-append before (block ∷ []) kind))
-    (cond_both (is_of kind block) (block ∷ []) [] (λ blocks. AreFine kind (names_of before kind ++ map (λ other. name_of kind other.lines) blocks))
-    (λ is. AreFine-push kind (names_of before kind) (name_of kind block.lines) (fine kind)
-    (subst (λ other. IsNew other (names_of before other) (name_of other block.lines)) (kind_from_is_of kind block is) new))
-    (λ _. subst (AreFine kind) (sym (append-nil (names_of before kind))) (fine kind)))
+    subst (AreFine kind) (sym (block_names-append before (block ∷ []) kind))
+    (cond_both (is_of kind block) (block ∷ []) [] (λ blocks. AreFine kind (block_names before kind ++ map (λ other. name_of kind other.lines) blocks))
+    (λ is. AreFine-push kind (block_names before kind) (name_of kind block.lines) (fine kind)
+    (subst (λ other. IsNew other (block_names before other) (name_of other block.lines)) (kind_from_is_of kind block is) new))
+    (λ _. subst (AreFine kind) (sym (append-nil (block_names before kind))) (fine kind)))
 
 -- ---- parts
 
 AllFine-ending : (before : List Block) (opening : ℕ) (found : Option Kind) (lines : List Line) (closing : Option Line) → AllFine before
-    → ending_fault (names_of before) opening found lines closing ≡ None → AllFine (before ++ known_block found lines)
+    → ending_fault (block_names before) opening found lines closing ≡ None → AllFine (before ++ known_block found lines)
 AllFine-ending before opening None lines closing fine none = AllFine-none before fine
 AllFine-ending before opening (Some kind) lines None fine none = absurd (none-some _ (sym none))
 AllFine-ending before opening (Some kind) lines (Some closing) fine none =
     AllFine-push before (record { kind = kind; lines = lines }) fine
-    (name_fault-none kind (names_of before kind) (name_of kind lines) closing.number none)
+    (name_fault-none kind (block_names before kind) (name_of kind lines) closing.number none)
 
 AllFine-word : (before : List Block) (opening : ℕ) (word : Option (List ℕ)) (lines : List Line) (closing : Option Line) → AllFine before
-    → block_fault (names_of before) opening word lines closing ≡ None → AllFine (before ++ known_block (option_and_then kind_named word) lines)
+    → block_fault (block_names before) opening word lines closing ≡ None → AllFine (before ++ known_block (option_and_then kind_named word) lines)
 AllFine-word before opening None lines closing fine none = absurd (none-some _ (sym none))
 AllFine-word before opening (Some word) lines closing fine none =
     let both = option_or_none (first_of (inner_fault opening (kind_named word)) lines) _ none in
     AllFine-ending before opening (kind_named word) lines closing fine both.1
 
 AllFine-part : (before : List Block) (lines : List Line) (closing : Option Line) → AllFine before
-    → part_fault (names_of before) lines closing ≡ None → AllFine (before ++ block_of lines)
+    → part_fault (block_names before) lines closing ≡ None → AllFine (before ++ block_of lines)
 AllFine-part before [] closing fine none = AllFine-none before fine
 AllFine-part before (opening ∷ lines) closing fine none = AllFine-word before opening.number (opened_word opening.text) lines closing fine none
 
 AllFine-parts : (before : List Block) (parts : List Part) → AllFine before → parts_fault before parts ≡ None → AllFine (before ++ blocks_of parts)
 AllFine-parts before [] fine none = AllFine-none before fine
 AllFine-parts before (part ∷ parts) fine none =
-    let both = option_or_none (part_fault (names_of before) part.lines part.closing) _ none in
+    let both = option_or_none (part_fault (block_names before) part.lines part.closing) _ none in
     subst AllFine (append_assoc before (block_of part.lines) (blocks_of parts))
     (AllFine-parts (before ++ block_of part.lines) parts (AllFine-part before part.lines part.closing fine both.0) both.1)
 

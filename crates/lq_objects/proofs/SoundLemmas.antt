@@ -7,14 +7,14 @@ use Rattle.std.proofs.lemmas.List.{length-map}
 use Rattle.std.proofs.lemmas.List.Elements.{All-map, All-weaker}
 use Rattle.std.proofs.lemmas.Simd.{map-map}
 use Rattle.std.proofs.lemmas.Slice.Eq.{bytes_eq-Decides}
-use Rattle.lq_records.specs.Sound.{AreLimited, AreLinked, AreNamed, AreNames, ArePlaces, AreSoundFields, IsPlain, IsSound}
+use Rattle.lq_records.specs.Sound.{AreLimited, AreLinked, AreNamed, AreNames, ArePlaces, AreSoundFields, HasNoSemicolon, IsSound}
 use Rattle.lq_records.specs.declared.base.Base.{Base}
 use Rattle.lq_records.specs.declared.base.Rules.{Rules}
 use Rattle.lq_records.specs.declared.base.Service.{Service}
 use Rattle.lq_objects.specs.Blocks.{Line, Part, parts_of, telling_lines}
 use Rattle.lq_objects.specs.Kinds.{limit}
 use Rattle.lq_names.specs.Names.{Name, is_same}
-use Rattle.lq_objects.specs.Names.{Block, is_of, name_of, names_of, text_or}
+use Rattle.lq_objects.specs.Names.{Block, is_of, name_of, block_names, text_or}
 use Rattle.lq_objects.specs.Faults.{blocks_of, fault_of, is_bad_name, is_empty, lacks_name, parts_fault, unknown_fault}
 use Rattle.lq_objects.specs.Objects.{base_of, base_of_blocks, base_of_parts, base_or, command_of, contact_group_of, contact_of, fields_of, host_group_of, host_of, lines_of_kind, period_of, service_group_of, service_of}
 use Rattle.lq_objects.specs.Reading.{Reads}
@@ -67,28 +67,28 @@ AreApart a b = a.host ≡ b.host → a.service_description ≢ b.service_descrip
 
 module _ (rules : Rules) (blocks : List Block) (fine : AllFine blocks) (none : unknown_fault blocks ≡ None) where
   -- the names of a kind, by the lines of its blocks
-  names_of-lines : (kind : Kind) → names_of blocks kind ≡ map (name_of kind) (lines_of_kind kind blocks)
-  names_of-lines kind = sym (map-map (name_of kind) (λ (block : Block). block.lines) (filter (is_of kind) blocks))
+  block_names-lines : (kind : Kind) → block_names blocks kind ≡ map (name_of kind) (lines_of_kind kind blocks)
+  block_names-lines kind = sym (map-map (name_of kind) (λ (block : Block). block.lines) (filter (is_of kind) blocks))
 
   fine_lines : (kind : Kind) → AreFine kind (map (name_of kind) (lines_of_kind kind blocks))
-  fine_lines kind = subst (AreFine kind) (names_of-lines kind) (fine kind)
+  fine_lines kind = subst (AreFine kind) (block_names-lines kind) (fine kind)
 
   -- there are as many objects of a kind as names
-  count_of : {X : Type 0} (kind : Kind) (object_of : List Line → X) → length (map object_of (lines_of_kind kind blocks)) ≡ length (names_of blocks kind)
+  count_of : {X : Type 0} (kind : Kind) (object_of : List Line → X) → length (map object_of (lines_of_kind kind blocks)) ≡ length (block_names blocks kind)
   count_of kind object_of =
-      length-map (lines_of_kind kind blocks) object_of ∙ sym (length-map (lines_of_kind kind blocks) (name_of kind)) ∙ sym (ap length (names_of-lines kind))
+      length-map (lines_of_kind kind blocks) object_of ∙ sym (length-map (lines_of_kind kind blocks) (name_of kind)) ∙ sym (ap length (block_names-lines kind))
 
   limited_of : {X : Type 0} (kind : Kind) (object_of : List Line → X) → length (map object_of (lines_of_kind kind blocks)) ≤ limit kind
   limited_of kind object_of = subst (λ n. n ≤ limit kind) (sym (count_of kind object_of)) (fine kind).few
 
   are_limited : AreLimited (base_of_blocks rules blocks)
   are_limited = record {
-    hosts = limited_of kind.Host (host_of (names_of blocks));
-    services = limited_of kind.Service (service_of (names_of blocks));
-    host_groups = limited_of kind.HostGroup (host_group_of (names_of blocks));
-    service_groups = limited_of kind.ServiceGroup (service_group_of (names_of blocks));
+    hosts = limited_of kind.Host (host_of (block_names blocks));
+    services = limited_of kind.Service (service_of (block_names blocks));
+    host_groups = limited_of kind.HostGroup (host_group_of (block_names blocks));
+    service_groups = limited_of kind.ServiceGroup (service_group_of (block_names blocks));
     contacts = limited_of kind.Contact contact_of;
-    contact_groups = limited_of kind.ContactGroup (contact_group_of (names_of blocks));
+    contact_groups = limited_of kind.ContactGroup (contact_group_of (block_names blocks));
     periods = limited_of kind.Period period_of;
     commands = limited_of kind.Command command_of;
   }
@@ -108,13 +108,13 @@ module _ (rules : Rules) (blocks : List Block) (fine : AllFine blocks) (none : u
   plain_lines kind = All-unmap (λ name. is_bad_name kind name ≡ false) (name_of kind) (lines_of_kind kind blocks) (fine_lines kind).plain
 
   -- each service names a host that is there
-  with_hosts : All (HasHost (names_of blocks)) (lines_of_kind kind.Service blocks)
+  with_hosts : All (HasHost (block_names blocks)) (lines_of_kind kind.Service blocks)
   with_hosts k d within =
-      host-found (names_of blocks) _ (All-known (names_of blocks) kind.Service blocks none k d within) (whole_lines kind.Service k d within)
+      host-found (block_names blocks) _ (All-known (block_names blocks) kind.Service blocks none k d within) (whole_lines kind.Service k d within)
 
   services_differ : AllPairs AreApart (base_of_blocks rules blocks).services
   services_differ =
-      let known : Kind → List Name = names_of blocks in
+      let known : Kind → List Name = block_names blocks in
       let all : List (List Line) = lines_of_kind kind.Service blocks in
       AllPairs-map AreApart (service_of known) all
       (AllPairs-by (λ a b. is_same (name_of kind.Service b) (name_of kind.Service a) ≡ false) (λ a b. AreApart (service_of known a) (service_of known b))
@@ -131,7 +131,7 @@ module _ (rules : Rules) (blocks : List Block) (fine : AllFine blocks) (none : u
 
   are_named : AreNamed (base_of_blocks rules blocks)
   are_named =
-      let known : Kind → List Name = names_of blocks in
+      let known : Kind → List Name = block_names blocks in
       record {
         hosts = named_of kind.Host (host_of known) (λ host. host.host_name) (λ _. refl) (λ _. refl);
         services = services_differ;
@@ -143,15 +143,15 @@ module _ (rules : Rules) (blocks : List Block) (fine : AllFine blocks) (none : u
         contact_groups = named_of kind.ContactGroup (contact_group_of known) (λ group. group.contactgroup_name) (λ _. refl) (λ _. refl);
         periods = named_of kind.Period period_of (λ period. period.timeperiod_name) (λ _. refl) (λ _. refl);
         commands = named_of kind.Command command_of (λ command. command.command_name) (λ _. refl) (λ _. refl);
-        plain_hosts = by_names kind.Host (host_of known) (λ host. IsPlain host.host_name) (is_bad_name kind.Host) (plain_lines kind.Host)
+        plain_hosts = by_names kind.Host (host_of known) (λ host. HasNoSemicolon host.host_name) (is_bad_name kind.Host) (plain_lines kind.Host)
             (λ lines plain. (or_parts _ _ plain).0);
-        plain_services = by_names kind.Service (service_of known) (λ service. IsPlain service.service_description) (is_bad_name kind.Service)
+        plain_services = by_names kind.Service (service_of known) (λ service. HasNoSemicolon service.service_description) (is_bad_name kind.Service)
             (plain_lines kind.Service) (λ lines plain. (or_parts _ _ plain).1);
       }
 
-  fields_sound : (own_name : List ℕ) (lines : List Line) → AreSoundFields (base_of_blocks rules blocks) (fields_of (names_of blocks) own_name lines)
+  fields_sound : (own_name : List ℕ) (lines : List Line) → AreSoundFields (base_of_blocks rules blocks) (fields_of (block_names blocks) own_name lines)
   fields_sound own_name lines =
-      let known : Kind → List Name = names_of blocks in
+      let known : Kind → List Name = block_names blocks in
       let attempts = number_or-bounded 1 1 1000000 (codes "max_check_attempts") lines (omega arith) (omega arith) in
       let notifications = number_or-bounded 1 0 1 (codes "notifications_enabled") lines (omega arith) (omega arith) in
       record {
@@ -170,7 +170,7 @@ module _ (rules : Rules) (blocks : List Block) (fine : AllFine blocks) (none : u
 
   hosts_within : All (λ service. service.host.0 < length (base_of_blocks rules blocks).hosts) (base_of_blocks rules blocks).services
   hosts_within =
-      let known : Kind → List Name = names_of blocks in
+      let known : Kind → List Name = block_names blocks in
       let services : List (List Line) = lines_of_kind kind.Service blocks in
       subst (λ n. All (λ (service : Service). service.host.0 < n) (map (service_of known) services)) (sym (count_of kind.Host (host_of known)))
       (All-map (λ service. service.host.0 < length (known kind.Host)) (service_of known) services
@@ -179,7 +179,7 @@ module _ (rules : Rules) (blocks : List Block) (fine : AllFine blocks) (none : u
   are_linked : AreLinked (base_of_blocks rules blocks)
   are_linked =
       let base : Base = base_of_blocks rules blocks in
-      let known : Kind → List Name = names_of blocks in
+      let known : Kind → List Name = block_names blocks in
       let hosts : length base.hosts ≡ length (known kind.Host) = count_of kind.Host (host_of known) in
       let services : length base.services ≡ length (known kind.Service) = count_of kind.Service (service_of known) in
       let contacts : length base.contacts ≡ length (known kind.Contact) = count_of kind.Contact contact_of in

@@ -6,10 +6,10 @@ use Rattle.std.proofs.lemmas.Bool.{cases_Bool, not-true}
 use Rattle.std.proofs.lemmas.List.{map-append}
 use Rattle.std.proofs.lemmas.Simd.{map-map}
 use Rattle.lq_records.specs.declared.base.Rules.{Rules}
-use Rattle.lq_objects.specs.Blocks.{Line, Part, begin_part, is_closing, is_telling, line_of, opened_word, parts_of, telling_after}
+use Rattle.lq_objects.specs.Blocks.{Line, Part, begin_part, is_closing, is_telling, numbered_line, opened_word, parts_of, telling_after}
 use Rattle.lq_objects.specs.Kinds.{kind_named}
 use Rattle.lq_names.specs.Names.{Name}
-use Rattle.lq_objects.specs.Names.{Block, is_of, name_of, names_of}
+use Rattle.lq_objects.specs.Names.{Block, is_of, name_of, block_names}
 use Rattle.lq_objects.specs.Needed.{is_needed}
 use Rattle.lq_objects.specs.Faults.{block_fault, block_of, blocks_of, ending_fault, first_of, inner_fault, known_block, name_fault, part_fault, parts_fault, unknown_fault, unknown_in_block}
 use Rattle.lq_objects.specs.Objects.{base_of_blocks, base_of_parts, base_or, command_of, contact_group_of, contact_of, host_group_of, host_of, lines_of_kind, objects_of, period_of, service_group_of, service_of}
@@ -84,26 +84,26 @@ thin-left_out (first ∷ next ∷ lines) line rest within unneeded =
 
 -- one line more that is kept
 pub thin_kept : (before : ℕ) (line : List ℕ) (lines rest : List (List ℕ)) (kept all : List Line) → lines ≡ line ∷ rest
-    → is_telling (line_of (before, line)) ≡ true → thin_parts (kept ++ telling_after before lines) ≡ thin_parts all
-    → thin_parts ((kept ++ line_of (before, line) ∷ []) ++ telling_after (before + 1) rest) ≡ thin_parts all
+    → is_telling (numbered_line (before, line)) ≡ true → thin_parts (kept ++ telling_after before lines) ≡ thin_parts all
+    → thin_parts ((kept ++ numbered_line (before, line) ∷ []) ++ telling_after (before + 1) rest) ≡ thin_parts all
 thin_kept before line lines rest kept all first telling so_far =
     ap thin_parts
-    (append_assoc kept (line_of (before, line) ∷ []) (telling_after (before + 1) rest)
+    (append_assoc kept (numbered_line (before, line) ∷ []) (telling_after (before + 1) rest)
     ∙ ap (λ more. kept ++ more) (sym (telling_first before line lines rest first telling)))
     ∙ so_far
 
 -- one line more that is left out
 pub thin_left : (before : ℕ) (line : List ℕ) (lines rest : List (List ℕ)) (kept all : List Line) → lines ≡ line ∷ rest
-    → is_telling (line_of (before, line)) ≡ true → ends_within kept ≡ true → is_needed (line_of (before, line)) ≡ false
+    → is_telling (numbered_line (before, line)) ≡ true → ends_within kept ≡ true → is_needed (numbered_line (before, line)) ≡ false
     → thin_parts (kept ++ telling_after before lines) ≡ thin_parts all → thin_parts (kept ++ telling_after (before + 1) rest) ≡ thin_parts all
 thin_left before line lines rest kept all first telling within unneeded so_far =
-    sym (thin-left_out kept (line_of (before, line)) (telling_after (before + 1) rest) within unneeded)
+    sym (thin-left_out kept (numbered_line (before, line)) (telling_after (before + 1) rest) within unneeded)
     ∙ ap (λ more. thin_parts (kept ++ more)) (sym (telling_first before line lines rest first telling))
     ∙ so_far
 
 -- one line more that says nothing
 pub thin_silent : (before : ℕ) (line : List ℕ) (lines rest : List (List ℕ)) (kept all : List Line) → lines ≡ line ∷ rest
-    → is_telling (line_of (before, line)) ≡ false → thin_parts (kept ++ telling_after before lines) ≡ thin_parts all
+    → is_telling (numbered_line (before, line)) ≡ false → thin_parts (kept ++ telling_after before lines) ≡ thin_parts all
     → thin_parts (kept ++ telling_after (before + 1) rest) ≡ thin_parts all
 thin_silent before line lines rest kept all first silent so_far =
     ap (λ more. thin_parts (kept ++ more)) (sym (silent_first before line lines rest first silent)) ∙ so_far
@@ -159,7 +159,7 @@ of_kind-thin made same kind (block ∷ blocks) =
     (λ other. rw other rest)
     (cases_Bool (is_of kind block))
 
-names-thin : (blocks : List Block) → names_of (map thin_block blocks) ≡ names_of blocks
+names-thin : (blocks : List Block) → block_names (map thin_block blocks) ≡ block_names blocks
 names-thin blocks = λ i kind. of_kind-thin (name_of kind) (name-needed kind) kind blocks i
 
 objects-of_kind : {X : Type 0} (object_of : List Line → X) → ((lines : List Line) → object_of (needed lines) ≡ object_of lines)
@@ -196,17 +196,17 @@ parts_fault-thin before [] = refl
 parts_fault-thin before (first ∷ parts) =
     ap₂ option_or
     (ap (λ earlier. part_fault earlier (thin_lines first.lines) first.closing) (names-thin before)
-    ∙ part-thin (names_of before) first.lines first.closing)
+    ∙ part-thin (block_names before) first.lines first.closing)
     (ap (λ blocks. parts_fault blocks (map thin_part parts))
     (ap (λ more. map thin_block before ++ more) (block-thin first.lines) ∙ sym (map-append thin_block before (block_of first.lines)))
     ∙ parts_fault-thin (before ++ block_of first.lines) parts)
 
 fault_of-thin : (blocks : List Block) → unknown_fault (map thin_block blocks) ≡ unknown_fault blocks
-fault_of-thin blocks = ap (λ known. first_of (unknown_in_block known) (map thin_block blocks)) (names-thin blocks) ∙ unknown-thin (names_of blocks) blocks
+fault_of-thin blocks = ap (λ known. first_of (unknown_in_block known) (map thin_block blocks)) (names-thin blocks) ∙ unknown-thin (block_names blocks) blocks
 
 base_of_blocks-thin : (rules : Rules) (blocks : List Block) → base_of_blocks rules (map thin_block blocks) ≡ base_of_blocks rules blocks
 base_of_blocks-thin rules blocks =
-    ap (λ known. objects_of known rules (map thin_block blocks)) (names-thin blocks) ∙ objects-thin (names_of blocks) rules blocks
+    ap (λ known. objects_of known rules (map thin_block blocks)) (names-thin blocks) ∙ objects-thin (block_names blocks) rules blocks
 
 base-thin : (rules : Rules) (parts : List Part) → base_of_parts rules (map thin_part parts) ≡ base_of_parts rules parts
 base-thin rules parts =

@@ -12,8 +12,8 @@ pub record Line : Type 0 where
   pub number : ℕ
   pub text : List ℕ
 
-abbrev pub line_of : ℕ × List ℕ → Line
-line_of entry = record { number = entry.0 + 1; text = trimmed entry.1 }
+abbrev pub numbered_line : ℕ × List ℕ → Line
+numbered_line entry = record { number = entry.0 + 1; text = trimmed entry.1 }
 
 -- empty lines and lines that begin with `#` say nothing
 abbrev pub is_telling : Line → Bool
@@ -21,7 +21,7 @@ is_telling line = nat_lt 0 (length line.text) && not (slice_index line.text 0 ==
 
 -- the lines that say something, after the first `before` lines of the file
 abbrev pub telling_after : ℕ → List (List ℕ) → List Line
-telling_after before lines = filter is_telling (map line_of (enumerate_from before lines))
+telling_after before lines = filter is_telling (map numbered_line (enumerate_from before lines))
 
 abbrev pub telling_lines : List ℕ → List Line
 telling_lines bytes = telling_after 0 (lines_of bytes)

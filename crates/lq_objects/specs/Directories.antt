@@ -1,7 +1,7 @@
 -- The names of the objects so far, by kind.
 use Rattle.std.specs.Prelude.{List, [], ◌∷◌, ◌++◌}
 use Rattle.lq_names.specs.Names.{Name}
-use Rattle.lq_objects.specs.Names.{Block, names_of}
+use Rattle.lq_objects.specs.Names.{Block, block_names}
 use Rattle.lq_objects.specs.declared.kind.Kind.{Kind}
 use Rattle.lq_objects.specs.declared.kind.Kind.TheVariants.{Host, Service, HostGroup, ServiceGroup, Contact, ContactGroup, Period, Command}
 use Rattle.lq_objects.specs.declared.directory.Directory.{Directory}
@@ -45,12 +45,12 @@ with_name directory Command name = record directory { commands = directory.comma
 -- the names that the objects of blocks have
 abbrev pub directory_of : List Block → Directory
 directory_of blocks = record {
-  hosts = names_of blocks Host;
-  services = names_of blocks Service;
-  host_groups = names_of blocks HostGroup;
-  service_groups = names_of blocks ServiceGroup;
-  contacts = names_of blocks Contact;
-  contact_groups = names_of blocks ContactGroup;
-  periods = names_of blocks Period;
-  commands = names_of blocks Command;
+  hosts = block_names blocks Host;
+  services = block_names blocks Service;
+  host_groups = block_names blocks HostGroup;
+  service_groups = block_names blocks ServiceGroup;
+  contacts = block_names blocks Contact;
+  contact_groups = block_names blocks ContactGroup;
+  periods = block_names blocks Period;
+  commands = block_names blocks Command;
 }

@@ -7,7 +7,7 @@ use Rattle.lq_text.specs.Numbers.{number_of}
 use Rattle.lq_objects.specs.Blocks.{Line, Part, is_named, value_of, opened_word}
 use Rattle.lq_objects.specs.Kinds.{kind_named, limit, second_directive, references, reference_directive, target}
 use Rattle.lq_names.specs.Names.{Name, is_same, place_of}
-use Rattle.lq_objects.specs.Names.{Block, name_of, named_in, names_of}
+use Rattle.lq_objects.specs.Names.{Block, name_of, named_in, block_names}
 use Rattle.lq_objects.specs.declared.kind.Kind.{Kind}
 use Rattle.lq_objects.specs.declared.kind.Kind.TheVariants as kind
 use Rattle.lq_objects.specs.declared.kind.Reference.{Reference}
@@ -143,7 +143,7 @@ block_of (opening ∷ lines) =
 abbrev pub parts_fault : List Block → List Part → Option Fault
 parts_fault before [] = None
 parts_fault before (part ∷ parts) =
-    option_or (part_fault (names_of before) part.lines part.closing)
+    option_or (part_fault (block_names before) part.lines part.closing)
     (parts_fault (before ++ block_of part.lines) parts)
 
 -- ---- names that aren't there
@@ -177,7 +177,7 @@ abbrev pub unknown_in_block : (Kind → List Name) → Block → Option Fault
 unknown_in_block known block = unknown_in known block.kind block.lines
 
 abbrev pub unknown_fault : List Block → Option Fault
-unknown_fault blocks = first_of (unknown_in_block (names_of blocks)) blocks
+unknown_fault blocks = first_of (unknown_in_block (block_names blocks)) blocks
 
 -- ---- the file
 

@@ -9,3 +9,4 @@ pub mod Objects
 pub mod Reading
 pub mod Views
 pub mod Words
+pub mod Drafts

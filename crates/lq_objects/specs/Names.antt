@@ -33,8 +33,8 @@ abbrev pub is_of : Kind → Block → Bool
 is_of kind block = bytes_eq (kind_word block.kind) (kind_word kind)
 
 -- the names of the objects of a kind, in the order of their blocks
-abbrev pub names_of : List Block → Kind → List Name
-names_of blocks kind = map (λ block. name_of kind block.lines) (filter (is_of kind) blocks)
+abbrev pub block_names : List Block → Kind → List Name
+block_names blocks kind = map (λ block. name_of kind block.lines) (filter (is_of kind) blocks)
 
 -- ---- lists of names
 

@@ -18,7 +18,7 @@ use Rattle.lq_records.specs.declared.base.Command.{Command}
 use Rattle.lq_objects.specs.Blocks.{Line, Part, directive, parts_of, telling_lines, value_of}
 use Rattle.lq_objects.specs.Kinds.{reference_directive, target}
 use Rattle.lq_names.specs.Names.{Name, place_of}
-use Rattle.lq_objects.specs.Names.{Block, is_of, named_in, names_of, text_or}
+use Rattle.lq_objects.specs.Names.{Block, is_of, named_in, block_names, text_or}
 use Rattle.lq_objects.specs.Faults.{blocks_of, fault_of, number_in}
 use Rattle.lq_objects.specs.declared.fault.Fault.{Fault}
 use Rattle.lq_objects.specs.declared.kind.Kind.{Kind}
@@ -228,7 +228,7 @@ base_or None base = Ok base
 base_or (Some fault) base = Err fault
 
 abbrev pub base_of_blocks : Rules → List Block → Base
-base_of_blocks rules blocks = objects_of (names_of blocks) rules blocks
+base_of_blocks rules blocks = objects_of (block_names blocks) rules blocks
 
 -- the base that the parts of a file say, or the first fault in them
 abbrev pub base_of_parts : Rules → List Part → Result Base Fault

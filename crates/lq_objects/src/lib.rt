@@ -5,6 +5,7 @@ mod block;
 mod check;
 mod directive;
 mod directory;
+mod draft;
 mod fault;
 mod kind;
 mod known;

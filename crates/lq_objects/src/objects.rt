@@ -2,6 +2,7 @@ ghost use Rattle.std.specs.Prelude.{◌≡◌, ◌≤◌, List, [], IfOk, IsTrue
 ghost use Rattle.lq_names.specs.Names.{Name};
 ghost use Rattle.lq_objects.specs.Words.{is_word};
 ghost use Rattle.lq_objects.specs.Directories.{known};
+ghost use Rattle.lq_objects.specs.Drafts.{drafted};
 ghost use Rattle.lq_objects.specs.Names.{text_or};
 ghost use Rattle.lq_objects.specs.Objects.{command_of, contact_group_of, contact_of, fields_of};
 ghost use Rattle.lq_objects.specs.Objects.{host_group_of, host_of, number_or, objects_of, period_of};
@@ -10,6 +11,7 @@ ghost use Rattle.lq_objects.specs.Objects.{places, service_group_of, service_of,
 use crate::block::Block;
 use crate::directive::{MOST_ATTEMPTS, directive, number_in};
 use crate::directory::Directory;
+use crate::draft::Draft;
 use crate::kind::{Kind, Reference};
 use crate::line::Line;
 use crate::name::{text_of, text_or};
@@ -20,7 +22,7 @@ use lq_records::{
     Base, Command, Contact, ContactGroup, Host, HostGroup, Id, Items, ObjectFields, Period, Rules,
     Service, ServiceGroup, Text,
 };
-use std::alloc::{AllocError, Global};
+use std::alloc::AllocError;
 
 /// The objects that blocks say, by the names of all.
 pub(crate) fn objects_of(
@@ -31,33 +33,16 @@ pub(crate) fn objects_of(
 ) -> Result<Base, AllocError>
     ensures { IfOk result (λ base. base ≡ objects_of (known directory.now) rules blocks.now) }
 {
-    let mut base = empty_base(texts.alloc(), rules);
+    let mut draft = Draft::new(texts.alloc(), rules);
     for block in blocks {
         let reader = Reader {
             texts,
             directory,
             lines: block.lines(),
         };
-        base = reader.add_to(base, block.kind())?;
+        draft = reader.add_to(draft, block.kind())?;
     }
-    Ok(base)
-}
-
-/// A base without objects.
-fn empty_base(alloc: Global, rules: Rules) -> Base
-    ensures { (names : Kind → List Name) → result ≡ objects_of names rules [] }
-{
-    Base {
-        hosts: Items::new(alloc),
-        services: Items::new(alloc),
-        host_groups: Items::new(alloc),
-        service_groups: Items::new(alloc),
-        contacts: Items::new(alloc),
-        contact_groups: Items::new(alloc),
-        periods: Items::new(alloc),
-        commands: Items::new(alloc),
-        rules,
-    }
+    draft.finish(texts.alloc())
 }
 
 /// What the object of a block is read from: the block's lines, and the names of all objects.
@@ -69,22 +54,22 @@ struct Reader<'r, 'a> {
 }
 
 impl<'r, 'a> Reader<'r, 'a> {
-    /// A base with the block's object at the end of its kind.
-    fn add_to(&self, mut base: Base, kind: Kind) -> Result<Base, AllocError>
-        ensures { IfOk result (λ longer. longer
-            ≡ with_object (known self.now.directory.now) base kind self.now.lines.now) }
+    /// The objects with the block's own at the end of its kind.
+    fn add_to(&self, mut draft: Draft, kind: Kind) -> Result<Draft, AllocError>
+        ensures { IfOk result (λ longer. drafted longer
+            ≡ with_object (known self.now.directory.now) (drafted draft) kind self.now.lines.now) }
     {
         match kind {
-            Kind::Host => base.hosts.push(self.host()?)?,
-            Kind::Service => base.services.push(self.service()?)?,
-            Kind::HostGroup => base.host_groups.push(self.host_group()?)?,
-            Kind::ServiceGroup => base.service_groups.push(self.service_group()?)?,
-            Kind::Contact => base.contacts.push(self.contact()?)?,
-            Kind::ContactGroup => base.contact_groups.push(self.contact_group()?)?,
-            Kind::Period => base.periods.push(self.period()?)?,
-            Kind::Command => base.commands.push(self.command()?)?,
+            Kind::Host => draft.hosts.push(self.host()?)?,
+            Kind::Service => draft.services.push(self.service()?)?,
+            Kind::HostGroup => draft.host_groups.push(self.host_group()?)?,
+            Kind::ServiceGroup => draft.service_groups.push(self.service_group()?)?,
+            Kind::Contact => draft.contacts.push(self.contact()?)?,
+            Kind::ContactGroup => draft.contact_groups.push(self.contact_group()?)?,
+            Kind::Period => draft.periods.push(self.period()?)?,
+            Kind::Command => draft.commands.push(self.command()?)?,
         }
-        Ok(base)
+        Ok(draft)
     }
 
     fn host(&self) -> Result<Host, AllocError>

@@ -5,7 +5,7 @@ ghost use Rattle.lq_objects.specs.Blocks.{parts_of};
 ghost use Rattle.lq_objects.specs.Checks.{Checks};
 ghost use Rattle.lq_objects.specs.Directories.{directory_of, known};
 ghost use Rattle.lq_objects.specs.Faults.{block_of, blocks_of, part_fault, parts_fault};
-ghost use Rattle.lq_objects.specs.Names.{names_of};
+ghost use Rattle.lq_objects.specs.Names.{block_names};
 ghost use Rattle.lq_objects.specs.Objects.{base_of, base_of_parts, objects_of};
 ghost use Rattle.lq_objects.specs.Reading.{Reads};
 
@@ -99,7 +99,7 @@ fn read_next<'p, 'a>(
 ) -> Result<(), ObjectsErr>
     requires { directory.old ≡ directory_of blocks.old.items }
     ensures fault { Checks result
-        (part_fault (names_of blocks.old.items) part.now.lines.now
+        (part_fault (block_names blocks.old.items) part.now.lines.now
         (option_copied part.now.closing)) }
     ensures blocks { OnOk result
         (blocks.new.items ≡ blocks.old.items ++ block_of part.now.lines.now) }

@@ -5,13 +5,13 @@ use Rattle.lq_objects.proofs.ObjectLemmas.{objects_of-more}
 use Rattle.lq_objects.proofs.objects.objects_of.Goals as goal
 
 pub loop-block-init : goal.loop-block-init
-loop-block-init c = c.empty_base-base.ensures (known c.args.directory.now)
+loop-block-init c = c.new-draft.ensures (known c.args.directory.now)
 
 pub loop-block-preserved : goal.loop-block-preserved
 loop-block-preserved c =
     let names = known c.args.directory.now in
     let base = objects_of names c.args.rules (take c.loop-block.block-index c.args.blocks.now) in
-    c.in_ok-base.ensures
+    c.in_ok-draft.ensures
     ∙ ap (λ before. with_object names before c.kind.result c.lines.result.now) c.loop-block.invariant
     ∙ ap (λ kind. with_object names base kind c.lines.result.now) c.kind.ensures
     ∙ ap (with_object names base c.block-item.result.kind) c.lines.ensures
