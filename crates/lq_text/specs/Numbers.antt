@@ -1,6 +1,7 @@
 -- Numbers in decimal digits.
-use Rattle.std.specs.Prelude.{ℕ, ℤ, pos, neg_ℤ, ◌+◌, ◌-◌, ◌*◌, ◌^◌, ◌<◌, ◌≤◌, ◌==◌, Bool, true, false, List, length, drop, fold, All, slice_index, if◌then◌else◌}
-use Rattle.std.specs.Char.{IsAsciiDigit}
+use Rattle.std.specs.Prelude.{ℕ, ℤ, pos, neg_ℤ, ◌+◌, ◌-◌, ◌*◌, ◌^◌, ◌<◌, ◌≤◌, ◌==◌, ◌&&◌, nat_le, nat_lt, Bool, true, false, Option, Some, None, List, length, drop, fold, All, slice_index, if◌then◌else◌}
+use Rattle.std.specs.Char.{IsAsciiDigit, is_ascii_digit}
+use Rattle.std.specs.List.{list_all}
 
 -- the number that digits say; 48 is the byte of `0`
 abbrev pub number_of : List ℕ → ℕ
@@ -37,3 +38,18 @@ pub record IsInteger (bytes : List ℕ) : Type 0 where
   pub some : 0 < length (without_minus bytes)
   pub digits : All IsAsciiDigit (without_minus bytes)
   pub fits : IsInRange (has_minus bytes) (number_of (without_minus bytes))
+
+-- ---- the same as a function
+
+abbrev pub is_in_range : Bool → ℕ → Bool
+is_in_range true number = nat_le number (2 ^ 63)
+is_in_range false number = nat_lt number (2 ^ 63)
+
+abbrev pub is_integer : List ℕ → Bool
+is_integer bytes =
+    nat_lt 0 (length (without_minus bytes)) && list_all is_ascii_digit (without_minus bytes)
+    && is_in_range (has_minus bytes) (number_of (without_minus bytes))
+
+-- the number that digits after an optional `-` say, where it is in the range of 64 bits
+unfoldable pub integer_read : List ℕ → Option ℤ
+integer_read bytes = if is_integer bytes then Some (integer_of bytes) else None

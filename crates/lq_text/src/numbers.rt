@@ -1,7 +1,7 @@
 ghost use Rattle.std.specs.Prelude.{◌≡◌, ◌≤◌, ◌^◌, ◌↔◌, min, neg_ℤ, pos, All, IsTrue, if◌then◌else◌};
 ghost use Rattle.std.specs.Char.{IsAsciiDigit};
 ghost use Rattle.std.specs.Option.{SomeIff};
-ghost use Rattle.lq_text.specs.Numbers.{IsInRange, IsInteger, IsNumber, integer_of, number_of};
+ghost use Rattle.lq_text.specs.Numbers.{IsInRange, IsInteger, IsNumber, integer_of, integer_read, number_of};
 
 /// The number that decimal digits say. It may begin with zeros. None where there is no digit, where
 /// another byte stands among them, a sign or a blank too, and where the number is above `u64::MAX`.
@@ -21,7 +21,15 @@ pub fn read_u64(b: &[u8]) -> Option<u64>
 
 /// The number that decimal digits after an optional `-` say. None where there is no digit, where
 /// another byte stands among them, a `+` or a blank too, and where the number doesn't fit an `i64`.
+#[tactic(auto, using(crate::proofs::IntegerLemmas::read_is_integer))]
 pub fn read_i64(b: &[u8]) -> Option<i64>
+    ensures exact { SomeIff result (IsInteger b.now) (integer_of b.now) }
+    ensures read { result ≡ integer_read b.now }
+{
+    read_integer(b)
+}
+
+fn read_integer(b: &[u8]) -> Option<i64>
     ensures { SomeIff result (IsInteger b.now) (integer_of b.now) }
 {
     let negative = b.first() == Some(&b'-');
