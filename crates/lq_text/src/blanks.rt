@@ -34,7 +34,8 @@ pub(crate) fn blank_count(bytes: &[u8]) -> usize
     count
 }
 
-fn trim_end(bytes: &[u8]) -> &[u8]
+/// The bytes without the blanks at their end.
+pub fn trim_end(bytes: &[u8]) -> &[u8]
     ensures { result.now ≡ without_end bytes.now }
 {
     let mut end = bytes.len();
