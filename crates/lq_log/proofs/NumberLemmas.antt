@@ -1,14 +1,14 @@
 -- Numbers in a line's fields.
-use Rattle.std.proofs.Common.{Fits, w32, ℕ, ℤ, ◌+◌, ◌-◌, ◌*◌, ◌^◌, ◌<◌, ◌≤◌, ◌≡◌, ◌&&◌, Bool, true, false, Option, Some, None, SomeIff, List, [], ◌∷◌, length, fold, refl, ap, arith, nat_lt, nat_le, All, if◌then◌else◌}
+use Rattle.std.proofs.Common.{Fits, w32, ℕ, ◌+◌, ◌-◌, ◌*◌, ◌^◌, ◌<◌, ◌≤◌, ◌≡◌, ◌&&◌, Bool, true, false, Option, Some, None, List, [], ◌∷◌, length, fold, refl, ap, arith, nat_lt, nat_le, All, if◌then◌else◌}
 use Rattle.std.proofs.lemmas.Bool.Decides.{nat_tests}
-use Rattle.std.proofs.lemmas.Bool.{and_parts, le-leb, lt-ltb}
+use Rattle.std.proofs.lemmas.Bool.{le-leb, lt-ltb}
 use Rattle.std.specs.List.{AllByRecursion, list_all}
 use Rattle.std.specs.Char.{IsAsciiDigit, is_ascii_digit}
 use Rattle.std.proofs.lemmas.List.Elements.{recursion_from_All}
 use Rattle.std.proofs.lemmas.List.Sums.{AllPass-from_list_all, list_all-from_AllPass}
 use Rattle.std.proofs.Math.Nat.{mul-le-mul_left, pow-suc, pow-le-pow_right}
-use Rattle.lq_text.specs.Numbers.{IsInRange, IsInteger, IsNumber, has_minus, integer_of, number_of, without_minus}
-use Rattle.lq_log.specs.Fields.{integer_read, is_attempt, is_in_range, is_integer}
+use Rattle.lq_text.specs.Numbers.{IsNumber, number_of}
+use Rattle.lq_log.specs.Fields.{is_attempt}
 
 -- ---- digits
 
@@ -65,39 +65,3 @@ no_attempt (digit ∷ digits) true is short not = absurd (not (is_number (digit 
 
 pub attempt_not_read : (text : List ℕ) → length text ≤ 9 → (IsNumber text → ⊥) → None ≡ (if is_attempt text then Some (number_of text) else None)
 attempt_not_read text short not = no_attempt text (list_all is_ascii_digit text) refl short not
-
--- ---- signed numbers
-
-range_holds : (negative : Bool) (number : ℕ) → is_in_range negative number ≡ true → IsInRange negative number
-range_holds true number is = grind (arith, nat_tests, is)
-range_holds false number is = grind (arith, nat_tests, is)
-
-range_test : (negative : Bool) (number : ℕ) → IsInRange negative number → is_in_range negative number ≡ true
-range_test true number is = le-leb number (2 ^ 63) is
-range_test false number is = lt-ltb number (2 ^ 63) is
-
-integer_test : (text : List ℕ) → IsInteger text → is_integer text ≡ true
-integer_test text is =
-    rw (lt-ltb 0 (length (without_minus text)) is.some, digits_test (without_minus text) is.digits, range_test (has_minus text) (number_of (without_minus text)) is.fits) refl
-
-integer_holds : (text : List ℕ) → is_integer text ≡ true → IsInteger text
-integer_holds text is =
-    let front = and_parts (nat_lt 0 (length (without_minus text)) && list_all is_ascii_digit (without_minus text)) (is_in_range (has_minus text) (number_of (without_minus text))) is in
-    let digits = and_parts (nat_lt 0 (length (without_minus text))) (list_all is_ascii_digit (without_minus text)) front.0 in
-    record {
-      some = grind (arith, nat_tests, digits.0);
-      digits = digits_hold (without_minus text) digits.1;
-      fits = range_holds (has_minus text) (number_of (without_minus text)) front.1;
-    }
-
-no_integer : (text : List ℕ) (test : Bool) → is_integer text ≡ test → (IsInteger text → ⊥) → None ≡ (if test then Some (integer_of text) else None)
-no_integer text false is not = refl
-no_integer text true is not = absurd (not (integer_holds text is))
-
-by_read : (text : List ℕ) (read : Option ℤ) → SomeIff read (IsInteger text) (integer_of text) → read ≡ (if is_integer text then Some (integer_of text) else None)
-by_read text (Some number) is = rw (integer_test text is.0) (ap Some is.1)
-by_read text None not = no_integer text (is_integer text) refl not
-
-pub read_is_integer : (text : List ℕ) (read : Option ℤ) → SomeIff read (IsInteger text) (integer_of text) → read ≡ integer_read text
-unfolding integer_read
-read_is_integer text read is = by_read text read is

@@ -4,7 +4,7 @@ use Rattle.std.specs.Char.{is_ascii_digit}
 use Rattle.std.specs.List.{list_any, list_all, before_first, after_first}
 use Rattle.std.specs.Option.{option_map, option_and_then}
 use Rattle.std.specs.Ordering.{int_eq}
-use Rattle.lq_text.specs.Numbers.{has_minus, integer_of, number_of, without_minus}
+use Rattle.lq_text.specs.Numbers.{integer_read, number_of}
 use Rattle.lq_events.specs.declared.log_entry.Kind.{Kind}
 use Rattle.lq_events.specs.declared.log_entry.Kind.TheVariants as kind
 use Rattle.lq_events.specs.declared.log_entry.LogEntry.{LogEntry}
@@ -62,19 +62,6 @@ is_code text =
 
 abbrev pub code_of : List ℕ → ℤ
 code_of text = pos (slice_index text 0 - digit_0)
-
--- the number that digits say, with an optional `-` before them, where it is one of 64 bits
-abbrev pub is_in_range : Bool → ℕ → Bool
-is_in_range true number = nat_le number (2 ^ 63)
-is_in_range false number = nat_lt number (2 ^ 63)
-
-abbrev pub is_integer : List ℕ → Bool
-is_integer text =
-    nat_lt 0 (length (without_minus text)) && list_all is_ascii_digit (without_minus text)
-    && is_in_range (has_minus text) (number_of (without_minus text))
-
-unfoldable pub integer_read : List ℕ → Option ℤ
-integer_read text = if is_integer text then Some (integer_of text) else None
 
 -- ---- a field goes into the entry; None where it hasn't its form
 
