@@ -37,4 +37,5 @@ with_depth begins (object.Service id) depths =
 pub record AreDepths (base : Base) (downtimes : List Downtime) (depths : Depths) : Type 0 where
   pub hosts : length depths.hosts ≡ length base.hosts
   pub services : length depths.services ≡ length base.services
-  pub each : (object : Object) → IfSome (counted_depth depths object) (λ n. n ≡ depth object downtimes)
+  pub each : (object : Object)
+      → IfSome (counted_depth depths object) (λ n. n ≡ depth object downtimes)

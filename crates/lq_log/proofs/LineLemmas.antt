@@ -1,6 +1,6 @@
 -- An entry that a line gives is one that its own message gives.
 use Rattle.std.proofs.Common.{◌≡◌, ◌<◌, ℕ, max, Bool, true, false, Option, Some, None, List, refl, subst, sym, ap, arith, unwrap_or, true≢false}
-use Rattle.lq_text.specs.Seconds.{second_of, text_behind}
+use Rattle.lq_text.specs.Seconds.{second_of, text_after_second}
 use Rattle.lq_events.specs.declared.log_entry.LogEntry.{LogEntry}
 use Rattle.lq_log.specs.Book.{time_limit}
 use Rattle.lq_log.specs.Entries.{IsOfLine, entry_of, said}
@@ -10,13 +10,13 @@ use Rattle.lq_log.proofs.StampLemmas.{own_text}
 
 -- the entry of a line with a second
 made : List ℕ → ℕ → ℕ → LogEntry
-made line before second = record (said (text_behind line)) { time = max second before; message = line }
+made line before second = record (said (text_after_second line)) { time = max second before; message = line }
 
 made_again : (line : List ℕ) (before second : ℕ) → second_of line ≡ Some second → IsOfLine (made line before second)
 unfolding made
 made_again line before second has =
     let same : max second (max second before) ≡ max second before = grind arith in
-    rw has (ap (λ time. Some (record (said (text_behind line)) { time = time; message = line })) same)
+    rw has (ap (λ time. Some (record (said (text_after_second line)) { time = time; message = line })) same)
 
 pub of_line : (line : List ℕ) (before : ℕ) (entry : LogEntry) → entry_of line before ≡ Some entry → IsOfLine entry
 unfolding made

@@ -12,7 +12,7 @@ use Rattle.std.specs.Char.{is_ascii_digit}
 use Rattle.std.specs.List.{list_all, prefix_len}
 use Rattle.lq_text.specs.Blanks.{is_blank, without_front}
 use Rattle.lq_text.specs.Numbers.{number_of}
-use Rattle.lq_text.specs.Seconds.{digits_of, has_second, second_of, text_behind}
+use Rattle.lq_text.specs.Seconds.{digits_of, has_second, second_of, text_after_second}
 use Rattle.lq_events.specs.declared.log_entry.LogEntry.{LogEntry}
 use Rattle.lq_log.specs.Entries.{entry_of, said}
 use Rattle.lq_log.specs.Written.{downtime_fields, form_text, is_of_host, next_field, object_text, stamped, state_word, type_word, written}
@@ -81,7 +81,7 @@ line_second digits text all some short =
     ap (λ test. if test then Some (number_of (digits_of (line digits text))) else None) (line_has_second digits text all some short)
     ∙ ap (λ found. Some (number_of found)) (line_digits digits text all)
 
-line_text : (digits text : List ℕ) → list_all is_ascii_digit digits ≡ true → text_behind (line digits text) ≡ without_front text
+line_text : (digits text : List ℕ) → list_all is_ascii_digit digits ≡ true → text_after_second (line digits text) ≡ without_front text
 unfolding line
 line_text digits text all =
     let behind : length digits + 2 ≡ length (91 ∷ digits) + 1 = omega arith in
@@ -128,9 +128,9 @@ own_line time form small =
     let short : length (decimal time) ≤ 12 = length-decimal-le 12 time (omega arith) small (omega (arith, small)) in
     let whole : List ℕ = line (decimal time) (form_text form) in
     let later : max time 0 ≡ time = omega arith in
-    ap (option_map (λ second. record (said (text_behind whole)) { time = max second 0; message = whole })) (line_second (decimal time) (form_text form) says.all some short)
-    ∙ ap (λ second. Some (record (said (text_behind whole)) { time = max second 0; message = whole })) says.value
-    ∙ ap (λ second. Some (record (said (text_behind whole)) { time = second; message = whole })) later
+    ap (option_map (λ second. record (said (text_after_second whole)) { time = max second 0; message = whole })) (line_second (decimal time) (form_text form) says.all some short)
+    ∙ ap (λ second. Some (record (said (text_after_second whole)) { time = max second 0; message = whole })) says.value
+    ∙ ap (λ second. Some (record (said (text_after_second whole)) { time = second; message = whole })) later
     ∙ ap (λ text. Some (record (said text) { time = time; message = whole })) (line_text (decimal time) (form_text form) says.all ∙ text_begins form)
 
 pub own_text : (time : ℕ) (form : Form) (entry : LogEntry) → time < 10 ^ 12 → entry ≡ written time form → entry_of entry.message 0 ≡ Some entry

@@ -9,7 +9,7 @@ use Rattle.std.proofs.lemmas.Str.{IsCharBoundary-after_ascii, IsCharBoundary-fro
 use Rattle.std.specs.List.{prefix_len}
 use Rattle.std.specs.Str.{IsCharBoundary, IsUtf8}
 use Rattle.lq_text.specs.Blanks.{is_blank}
-use Rattle.lq_text.specs.Seconds.{digits_of, has_second, second_of, text_behind}
+use Rattle.lq_text.specs.Seconds.{digits_of, has_second, second_of, text_after_second}
 
 -- after an ASCII byte
 after_ascii : (bytes : List ℕ) (at past : ℕ) → past ≡ at + 1 → IsUtf8 bytes → at < length bytes → get_or bytes at 0 < 128 → IsUtf8 (drop past bytes)
@@ -29,7 +29,7 @@ within bytes at byte some is = ⊎_elim (λ below. below) (λ past. absurd (omeg
 last_holds : (a b c d : Bool) → (a && b && c && d) ≡ true → d ≡ true
 last_holds a b c d is = (and_parts (a && b && c) d is).1
 
-text_utf8 : (line : List ℕ) → IsUtf8 line → has_second line ≡ true → IsUtf8 (text_behind line)
+text_utf8 : (line : List ℕ) → IsUtf8 line → has_second line ≡ true → IsUtf8 (text_after_second line)
 text_utf8 line utf8 is =
     let bracket : (get_or line (length (digits_of line) + 1) 0 == 93) ≡ true
     = last_holds (get_or line 0 0 == 91) (nat_lt 0 (length (digits_of line))) (nat_le (length (digits_of line)) 12) (get_or line (length (digits_of line) + 1) 0 == 93) is in
@@ -38,6 +38,6 @@ text_utf8 line utf8 is =
     = after_ascii line (length (digits_of line) + 1) (length (digits_of line) + 2) (omega arith) utf8 (within line _ 93 (omega arith) byte) (omega (arith, byte)) in
     after_blanks (drop (length (digits_of line) + 2) line) _ refl behind
 
-pub text_boundary : (line : List ℕ) (place second : ℕ) → IsUtf8 line → place ≤ length line → Some second ≡ second_of line → drop place line ≡ text_behind line → IsCharBoundary line place
+pub text_boundary : (line : List ℕ) (place second : ℕ) → IsUtf8 line → place ≤ length line → Some second ≡ second_of line → drop place line ≡ text_after_second line → IsCharBoundary line place
 text_boundary line place second utf8 fits is behind =
     IsCharBoundary-from_drop line place fits (subst IsUtf8 (sym behind) (text_utf8 line utf8 (cond_some (has_second line) _ second (sym is)).0))

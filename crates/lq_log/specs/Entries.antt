@@ -3,7 +3,7 @@ use Rattle.std.specs.Prelude.{◌≡◌, ℕ, pos, max, ◌==◌, ◌&&◌, nat_
 use Rattle.std.specs.List.{list_any, starts_with}
 use Rattle.std.specs.Option.{option_map, option_and_then}
 use Rattle.lq_text.specs.Blanks.{is_blank}
-use Rattle.lq_text.specs.Seconds.{second_of, text_behind}
+use Rattle.lq_text.specs.Seconds.{second_of, text_after_second}
 use Rattle.lq_events.specs.declared.log_entry.Kind.{Kind}
 use Rattle.lq_events.specs.declared.log_entry.Kind.TheVariants as kind
 use Rattle.lq_events.specs.declared.log_entry.LogEntry.{LogEntry}
@@ -77,7 +77,7 @@ said text = unwrap_or (option_and_then formed (parted text)) (other text)
 abbrev pub entry_of : List ℕ → ℕ → Option LogEntry
 entry_of line before =
     option_map
-    (λ second. record (said (text_behind line)) { time = max second before; message = line })
+    (λ second. record (said (text_after_second line)) { time = max second before; message = line })
     (second_of line)
 
 -- An entry that a line gives after some time: the line is its message, and after the entry's own

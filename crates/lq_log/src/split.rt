@@ -1,7 +1,7 @@
 ghost use Rattle.std.specs.Prelude.{◌≡◌, ◌+◌, ◌^◌, ◌<◌, ◌==◌, ◌&&◌, IfSome, IsTrue, drop, length, slice_index, take};
 ghost use Rattle.std.specs.Option.{option_map};
 ghost use Rattle.lq_text.specs.Blanks.{is_blank};
-ghost use Rattle.lq_text.specs.Seconds.{second_of, text_behind};
+ghost use Rattle.lq_text.specs.Seconds.{second_of, text_after_second};
 ghost use Rattle.lq_log.specs.Entries.{colon, parted};
 
 use lq_text::{bracketed_second, is_blank};
@@ -14,7 +14,7 @@ const SEPARATOR_LEN: usize = 2;
 pub(crate) fn second_and_text(line: &str) -> Option<(u64, &str)>
     ensures second { option_map (λ found. found.0) result ≡ second_of line.now }
     ensures below { IfSome result (λ found. found.0 < 10 ^ 12) }
-    ensures text { IfSome result (λ found. found.1.now ≡ text_behind line.now) }
+    ensures text { IfSome result (λ found. found.1.now ≡ text_after_second line.now) }
 {
     let (second, place) = bracketed_second(line.as_bytes())?;
     Some((second, &line[place..]))

@@ -13,11 +13,11 @@ IsFault TooLarge = ⊥
 IsFault Memory = ⊥
 
 -- how an answer that isn't a file is printed
-abbrev pub text_of : LoadErr → List ℕ
-text_of Missing = codes "missing"
-text_of Failed = codes "cannot be read"
-text_of TooLarge = codes "too large"
-text_of Memory = codes "out of memory"
+abbrev pub load_err_text : LoadErr → List ℕ
+load_err_text Missing = codes "missing"
+load_err_text Failed = codes "cannot be read"
+load_err_text TooLarge = codes "too large"
+load_err_text Memory = codes "out of memory"
 
 -- the count never falls, and it rose where the answer is a fault
 pub record HasLoadCause {T : Type 0} (before now : ℕ) (result : Result T LoadErr) : Type 0 where

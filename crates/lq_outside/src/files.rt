@@ -20,9 +20,9 @@ pub enum LoadErr {
 
 impl fmt::Display for LoadErr {
     ghost use Rattle.std.specs.Prelude.{Some};
-    ghost use Rattle.lq_outside.specs.Loading.{text_of};
+    ghost use Rattle.lq_outside.specs.Loading.{load_err_text};
 
-    ghost output = { λ e. Some (text_of e) };
+    ghost output = { λ e. Some (load_err_text e) };
 
     fn fmt<W: fmt::Write>(&self, f: &mut fmt::Formatter<W>) -> fmt::Result {
         f.write_str(match self {

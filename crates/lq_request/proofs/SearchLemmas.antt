@@ -231,9 +231,9 @@ text_is_some : (line : List ℕ) → is_line_of kind.Text line ≡ true → is_l
 text_is_some line is = ⊎_elim (λ (empty : is_line_of kind.Empty line ≡ true). absurd (let other : false ≡ true = ap not (sym empty) ∙ is in cc)) (λ some. some) (cases_Bool (is_line_of kind.Empty line))
 
 -- the line after all empty ones has text
-text_behind : (bytes : List ℕ) (at end next : ℕ) → IsLineAt bytes at end next → AreLines kind.Empty (take at bytes) → front_lines kind.Empty bytes ≡ take at bytes
+text_after_second : (bytes : List ℕ) (at end next : ℕ) → IsLineAt bytes at end next → AreLines kind.Empty (take at bytes) → front_lines kind.Empty bytes ≡ take at bytes
     → is_line_of kind.Text (take (next - at) (drop at bytes)) ≡ true
-text_behind bytes at end next is lines front =
+text_after_second bytes at end next is lines front =
     let line : List ℕ = take (next - at) (drop at bytes) in
     let none : length (front_lines kind.Empty (drop at bytes)) ≡ 0 =
     omega (arith, ap length front, ap length (front_behind kind.Empty bytes at lines), length-append (take at bytes) (front_lines kind.Empty (drop at bytes))) in
@@ -251,7 +251,7 @@ searched_first bytes at end next is fed lines front other = record {
   order = omega (arith, is.more);
   within = is.within;
   empty = lines;
-  lines = line_lines bytes at end next is kind.Text fed (text_behind bytes at end next is lines front);
+  lines = line_lines bytes at end next is kind.Text fed (text_after_second bytes at end next is lines front);
   query = λ _ rest. ap begins_command (single_line bytes at end next is fed rest) ∙ ap is_command (text_at bytes at end next is) ∙ other;
 }
 
@@ -302,7 +302,7 @@ last_query bytes start end next front lines is same other =
     let last : next ≡ length bytes = last_line bytes start end next is same in
     let none : drop next bytes ≡ [] = grind (arith, common_steps) in
     let text : front_lines kind.Text (drop start bytes) ≡ line =
-    ap (λ l. concat (take_while (is_line_of kind.Text) l)) is.whole ∙ passes_first kind.Text line (whole_lines (drop next bytes)) (text_behind bytes start end next is lines front)
+    ap (λ l. concat (take_while (is_line_of kind.Text) l)) is.whole ∙ passes_first kind.Text line (whole_lines (drop next bytes)) (text_after_second bytes start end next is lines front)
     ∙ ap (λ rest. line ++ front_lines kind.Text rest) none ∙ append-nil line in
     let query : message_of bytes ≡ query_from start line bytes =
     ap (λ n. message_at n (whole_lines (drop n bytes)) bytes) before ∙ ap (λ l. message_at start l bytes) is.whole

@@ -18,8 +18,8 @@ use Rattle.lq_request.specs.Style.{is_colon, switch_value}
 abbrev pub switch : List ℕ → List ℕ → Result Bool Reason
 switch name value = ok_or (switch_value value) (reason.BadValue name)
 
-abbrev pub is_unknown : Table → List ℕ → Bool
-is_unknown table word = is_none (column_of table word)
+abbrev pub names_none : Table → List ℕ → Bool
+names_none table word = is_none (column_of table word)
 
 abbrev pub named_columns :
     Table → List (List ℕ) → Option (List ℕ) → Result (List Col) Reason
@@ -28,7 +28,7 @@ named_columns table words None = Ok (filter_map (column_of table) words)
 
 -- the columns that words name; the first word that names none decides
 abbrev pub columns_of_words : Table → List (List ℕ) → Result (List Col) Reason
-columns_of_words table words = named_columns table words (find (is_unknown table) words)
+columns_of_words table words = named_columns table words (find (names_none table) words)
 
 abbrev pub some_columns : Table → List ℕ → List (List ℕ) → Result (List Col) Reason
 some_columns table name [] = Err (reason.BadValue name)

@@ -7,7 +7,7 @@ use Rattle.std.specs.Str.Pattern.{FindsTextPrefix, StripsPrefix}
 use Rattle.std.proofs.lemmas.Str.Pattern.{starts_text}
 use Rattle.std.proofs.lemmas.List.{length-map}
 use Rattle.lq_schema.specs.Order.{own_columns}
-use Rattle.lq_schema.specs.Schema.{columns_of, joined_of, part, part_columns, subject_of, without_front}
+use Rattle.lq_schema.specs.Schema.{columns_of, joined_of, part, part_columns, subject_of, without_prefix}
 use Rattle.lq_schema.specs.declared.columns.Col.{Col}
 use Rattle.lq_schema.specs.declared.columns.OwnColumn.{OwnColumn}
 use Rattle.lq_schema.specs.declared.columns.Prefix.TheVariants as prefix
@@ -99,7 +99,7 @@ joined_found t subject parts n i x about joins is past found =
 -- ---- the own prefix
 
 pub without_is : (r : Option (Bor (List ℕ))) (n s : List ℕ) → MatchOption r (FindsTextPrefix n s None) (λ x. StripsPrefix (FindsTextPrefix n) s x.now)
-    → option_copied r ≡ without_front s n
+    → option_copied r ≡ without_prefix s n
 without_is None n s none = rw (sym (starts_text false n s none)) refl
 without_is (Some x) n s (k, is, rest, long) =
     let cut = subst (λ m. IsCharBoundary s m) (sym is.0) is.2 in

@@ -84,8 +84,8 @@ abbrev pub named : Table → List ℕ → Option Col
 named table name = find (λ column. bytes_eq name (full_name column)) (columns_of table)
 
 -- what follows a front, None where the name doesn't begin with that
-abbrev pub without_front : List ℕ → List ℕ → Option (List ℕ)
-without_front name front =
+abbrev pub without_prefix : List ℕ → List ℕ → Option (List ℕ)
+without_prefix name front =
     if starts_with nat_eq name front then Some (drop (length front) name) else None
 
 -- The column that a name means: the one with that name, else the one whose name follows the table's
@@ -93,4 +93,4 @@ without_front name front =
 unfoldable pub column_of : Table → List ℕ → Option Col
 column_of table name =
     option_or (named table name)
-    (option_and_then (named table) (without_front name (own_prefix (subject_of table))))
+    (option_and_then (named table) (without_prefix name (own_prefix (subject_of table))))

@@ -4,7 +4,7 @@ ghost use Rattle.std.specs.Option.{option_copied};
 ghost use Rattle.lq_schema.specs.Kinds.{own_kind};
 ghost use Rattle.lq_schema.specs.Names.{full_name, own_name, prefix_text, table_name};
 ghost use Rattle.lq_schema.specs.Order.{own_columns};
-ghost use Rattle.lq_schema.specs.Schema.{column_of, columns_of, joined_of, named, part_columns, subject_of, table_of, tables, without_front};
+ghost use Rattle.lq_schema.specs.Schema.{column_of, columns_of, joined_of, named, part_columns, subject_of, table_of, tables, without_prefix};
 
 use crate::columns::{Col, ColKind, Name, Part, Prefix, Subject, Table};
 
@@ -31,7 +31,7 @@ pub fn column(t: Table, name: &str) -> Option<Col>
 {
     match named(t, name) {
         Some(column) => Some(column),
-        None => match without_front(name, t.subject().own_prefix()) {
+        None => match without_prefix(name, t.subject().own_prefix()) {
             Some(name) => named(t, name),
             None => None,
         },
@@ -123,8 +123,8 @@ fn has_name(column: Col, name: &str) -> bool
 }
 
 /// What follows a front. None where the name doesn't begin with that.
-fn without_front<'a>(name: &'a str, front: &str) -> Option<&'a str>
-    ensures { option_copied result ≡ without_front name.now front.now }
+fn without_prefix<'a>(name: &'a str, front: &str) -> Option<&'a str>
+    ensures { option_copied result ≡ without_prefix name.now front.now }
 {
     name.strip_prefix(front)
 }

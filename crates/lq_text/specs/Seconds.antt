@@ -21,5 +21,5 @@ abbrev pub second_of : List ℕ → Option ℕ
 second_of line = if has_second line then Some (number_of (digits_of line)) else None
 
 -- what follows the second and its blanks
-abbrev pub text_behind : List ℕ → List ℕ
-text_behind line = without_front (drop (length (digits_of line) + 2) line)
+abbrev pub text_after_second : List ℕ → List ℕ
+text_after_second line = without_front (drop (length (digits_of line) + 2) line)

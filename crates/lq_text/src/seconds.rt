@@ -3,7 +3,7 @@ ghost use Rattle.std.specs.Char.{IsAsciiDigit, is_ascii_digit};
 ghost use Rattle.std.specs.List.{prefix_len};
 ghost use Rattle.std.specs.Option.{option_map};
 ghost use Rattle.lq_text.specs.Numbers.{number_of};
-ghost use Rattle.lq_text.specs.Seconds.{second_of, text_behind};
+ghost use Rattle.lq_text.specs.Seconds.{second_of, text_after_second};
 ghost use Rattle.lq_text.specs.declared.seconds.TheConstants.{SECOND_DIGITS};
 
 use crate::blanks::blank_count;
@@ -22,7 +22,7 @@ pub fn bracketed_second(line: &[u8]) -> Option<(u64, usize)>
     ensures second { option_map (λ found. found.0) result ≡ second_of line.now }
     ensures below { IfSome result (λ found. found.0 < 10 ^ 12) }
     ensures within { IfSome result (λ found. found.1 ≤ length line.now) }
-    ensures text { IfSome result (λ found. drop found.1 line.now ≡ text_behind line.now) }
+    ensures text { IfSome result (λ found. drop found.1 line.now ≡ text_after_second line.now) }
 {
     let Some((b'[', rest)) = line.split_first() else {
         return None;

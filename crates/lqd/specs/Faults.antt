@@ -70,11 +70,11 @@ write_text = line (codes "write fault")
 abbrev pub memory_text : List ℕ
 memory_text = line (codes "out of memory")
 
-abbrev pub text_of : End → List ℕ
-text_of end.Usage = usage_text
-text_of (end.Objects fault) = objects_text fault
-text_of (end.FileMissing path) = missing_text path.now
-text_of (end.FileUnreadable path) = unreadable_text path.now
-text_of end.Read = read_text
-text_of end.Write = write_text
-text_of end.Memory = memory_text
+abbrev pub end_text : End → List ℕ
+end_text end.Usage = usage_text
+end_text (end.Objects fault) = objects_text fault
+end_text (end.FileMissing path) = missing_text path.now
+end_text (end.FileUnreadable path) = unreadable_text path.now
+end_text end.Read = read_text
+end_text end.Write = write_text
+end_text end.Memory = memory_text

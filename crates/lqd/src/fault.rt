@@ -2,7 +2,7 @@ ghost use Rattle.std.specs.Prelude.{◌≡◌, ◌++◌, ◌≤◌, drop, OnOk};
 ghost use Rattle.std.specs.Fmt.{decimal};
 ghost use Rattle.std.specs.Io.KnownBytes.{Appends};
 ghost use Rattle.lq_outside.specs.Faults.{HasCause};
-ghost use Rattle.lqd.specs.Faults.{IsStatus, objects_text, status_of, text_of};
+ghost use Rattle.lqd.specs.Faults.{IsStatus, objects_text, status_of, end_text};
 
 use lq_objects::ObjectsWhat;
 use lq_outside::{Failed, Sink, write_all};
@@ -57,7 +57,7 @@ impl Fault<'_> {
     /// Writes the fault's text and a line feed. It takes no memory.
     pub fn report<K: Sink>(self, sink: &mut K) -> Result<(), Failed>
         ensures ok { OnOk result
-            (Appends (K.held sink.old) (K.held sink.new) (text_of self.entry)) }
+            (Appends (K.held sink.old) (K.held sink.new) (end_text self.entry)) }
         ensures cause { HasCause (K.faults sink.old) (K.faults sink.new) result }
     {
         match self {

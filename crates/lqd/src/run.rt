@@ -5,7 +5,7 @@ ghost use Rattle.lq_outside.specs.Sinks.{AppendsFront};
 ghost use Rattle.lq_records.specs.Sound.{IsSound};
 ghost use Rattle.lq_live.specs.State.{opened};
 ghost use Rattle.lqd.specs.CommandLine.{asked_path};
-ghost use Rattle.lqd.specs.Faults.{IsStatus, status_of, text_of};
+ghost use Rattle.lqd.specs.Faults.{IsStatus, status_of, end_text};
 ghost use Rattle.lqd.specs.Reading.{ReadsAll, ReadsNoFurther, ReadsPart, ReadsSome, RepliesToFirst, RepliesToPart, RepliesToRead};
 ghost use Rattle.lqd.specs.Replies.{replies};
 ghost use Rattle.lqd.specs.Run.{IsRefused, LoadsNoBase, MustRefuse, OnBase, OnFile, Reports};
@@ -119,7 +119,7 @@ fn end<K: Sink>(fault: Fault, faults: &mut K) -> u8
     ensures code { result ≡ status_of fault.entry }
     ensures known { IsStatus result }
     ensures told { ¬ Rose (K.faults faults.old) (K.faults faults.new)
-        → Appends (K.held faults.old) (K.held faults.new) (text_of fault.entry) }
+        → Appends (K.held faults.old) (K.held faults.new) (end_text fault.entry) }
     ensures later { K.faults faults.old ≤ K.faults faults.new }
 {
     let _ = fault.report(faults);
