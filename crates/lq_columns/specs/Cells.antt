@@ -1,7 +1,7 @@
 -- The value that each column has of a host and of a service.
 use Rattle.std.specs.Prelude.{ℕ, ℤ, pos, ◌==◌, ◌&&◌, Option, List, length, map, filter, if◌then◌else◌}
 use Rattle.std.specs.List.{slice_get}
-use Rattle.std.specs.Option.{option_map, option_and_then}
+use Rattle.std.specs.Option.{option_map, option_map_or, option_and_then}
 use Rattle.std.specs.Ordering.{int_eq}
 use Rattle.lq_records.specs.declared.base.Base.{Base}
 use Rattle.lq_records.specs.declared.base.ObjectFields.{ObjectFields}
@@ -25,7 +25,10 @@ use Rattle.lq_schema.specs.declared.host.HostColumn.{HostColumn}
 use Rattle.lq_schema.specs.declared.host.HostColumn.TheVariants as host_column
 use Rattle.lq_schema.specs.declared.service.ServiceColumn.{ServiceColumn}
 use Rattle.lq_schema.specs.declared.service.ServiceColumn.TheVariants as service_column
-use Rattle.lq_schema.specs.Value.{Value, Number, Words, Texts, Numbers}
+use Rattle.lq_schema.specs.declared.columns.OwnColumn.{OwnColumn}
+use Rattle.lq_schema.specs.declared.columns.OwnColumn.TheVariants as own
+use Rattle.lq_schema.specs.Kinds.{host_kind, own_kind, service_kind}
+use Rattle.lq_schema.specs.Value.{Value, Number, Words, Texts, Numbers, empty_value}
 use Rattle.lq_live.specs.State.{State}
 use Rattle.lq_records.specs.Object.{is_same_object}
 use Rattle.lq_columns.specs.Names.{child_names_of, contact_group_names_of, contact_names_of, contacts_of, descriptions_of, group_names_of, host_names_of, variable_names_of, variable_values_of}
@@ -165,6 +168,14 @@ host_cell s about (host_column.Status column) =
     status_cell s (object.Host about.id) about.status column
 host_cell s about (host_column.Counter column) = services_cell s (scope.Host about.id) column
 
+-- the value of a column of the host with an id; the empty value of its kind where there is no such
+-- host, or the column is of something else
+abbrev pub host_value : State → HostId → OwnColumn → Value
+host_value s id (own.Host column) =
+    option_map_or (λ about. host_cell s about column) (host_at s id)
+    (empty_value (host_kind column))
+host_value s id column = empty_value (own_kind column)
+
 -- ---- services
 
 -- a service of a state: its id, what the object file says of it, and its status
@@ -191,3 +202,11 @@ service_cell s about (service_column.Object column) =
     object_cell s.base (object.Service about.id) about.service.fields column
 service_cell s about (service_column.Status column) =
     status_cell s (object.Service about.id) about.status column
+
+-- the value of a column of the service with an id; the empty value of its kind where there is no
+-- such service, or the column is of something else
+abbrev pub service_value : State → ServiceId → OwnColumn → Value
+service_value s id (own.Service column) =
+    option_map_or (λ about. service_cell s about column) (service_at s id)
+    (empty_value (service_kind column))
+service_value s id column = empty_value (own_kind column)

@@ -1,12 +1,13 @@
 ghost use Rattle.std.specs.Prelude.{◌≡◌, IfOk, IsOk};
 ghost use Rattle.std.specs.Option.{IfSome, IsSome, option_map};
 ghost use Rattle.lq_live.specs.State.{State};
-ghost use Rattle.lq_schema.specs.Kinds.{host_kind};
+ghost use Rattle.lq_schema.specs.Kinds.{host_kind, own_kind};
 ghost use Rattle.lq_schema.specs.Value.{Number, Words, shown};
-ghost use Rattle.lq_columns.specs.Cells.{host_at, host_cell, host_record};
+ghost use Rattle.lq_columns.specs.Cells.{host_at, host_cell, host_record, host_value};
 ghost use Rattle.lq_columns.specs.Plain.{IsHeldByHost, IsNumber, IsPlain, IsText};
 
 use crate::counters::services_value;
+use crate::empty::empty_value;
 use crate::monitored::Monitored;
 use crate::names::{child_names, descriptions, names_of};
 use crate::object::{object_number, object_text};
@@ -15,7 +16,7 @@ use crate::status::{status_number, status_text};
 use lq_events::Status;
 use lq_live::Live;
 use lq_records::{Host, HostId, Memory, Object};
-use lq_schema::{HostColumn, Val};
+use lq_schema::{Col, HostColumn, OwnColumn, Val, kind};
 use std::alloc::Global;
 
 /// A host of a state: what the object file says of it, and its status. Its cells are read from it
@@ -108,5 +109,21 @@ impl<'a> HostRow<'a> {
                 services_value(alloc, live, Scope::Host(self.id), column)
             }
         })
+    }
+}
+
+/// The value of a column of the host with an id. Where there is no such host, or the column
+/// isn't one of hosts, it is 0, an empty text or an empty list. The only error is out of memory;
+/// numbers and single texts take none.
+pub fn host_value<'a>(alloc: Global, live: &'a Live, c: Col, id: HostId) -> Result<Val<'a>, Memory>
+    ensures value { IfOk result (λ v. shown v ≡ host_value live.now.state id c.own) }
+    ensures plain { IsPlain (own_kind c.own) → IsOk result }
+{
+    let OwnColumn::Host(column) = c.own else {
+        return Ok(empty_value(alloc, kind(c)));
+    };
+    match HostRow::at(live, id) {
+        Some(row) => row.value(alloc, live, column),
+        None => Ok(empty_value(alloc, kind(c))),
     }
 }

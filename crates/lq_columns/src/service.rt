@@ -1,18 +1,19 @@
 ghost use Rattle.std.specs.Prelude.{◌≡◌, IfOk, IsOk};
 ghost use Rattle.std.specs.Option.{IfSome, IsSome, option_map};
 ghost use Rattle.lq_live.specs.State.{State};
-ghost use Rattle.lq_schema.specs.Kinds.{service_kind};
+ghost use Rattle.lq_schema.specs.Kinds.{service_kind, own_kind};
 ghost use Rattle.lq_schema.specs.Value.{Number, Words, shown};
-ghost use Rattle.lq_columns.specs.Cells.{service_at, service_cell, service_record};
+ghost use Rattle.lq_columns.specs.Cells.{service_at, service_cell, service_record, service_value};
 ghost use Rattle.lq_columns.specs.Plain.{IsHeldByService, IsNumber, IsPlain, IsText};
 
+use crate::empty::empty_value;
 use crate::monitored::Monitored;
 use crate::object::{object_number, object_text};
 use crate::status::{status_number, status_text};
 use lq_events::Status;
 use lq_live::Live;
 use lq_records::{Memory, Object, Service, ServiceId};
-use lq_schema::{ServiceColumn, Val};
+use lq_schema::{Col, OwnColumn, ServiceColumn, Val, kind};
 use std::alloc::Global;
 
 /// A service of a state: what the object file says of it, and its status. Its cells are read from
@@ -93,5 +94,26 @@ impl<'a> ServiceRow<'a> {
             ServiceColumn::Object(column) => object.object_value(alloc, column),
             ServiceColumn::Status(column) => object.status_value(alloc, column),
         }
+    }
+}
+
+/// The value of a column of the service with an id. Where there is no such service, or the column
+/// isn't one of services, it is 0, an empty text or an empty list. The only error is out of memory;
+/// numbers and single texts take none.
+pub fn service_value<'a>(
+    alloc: Global,
+    live: &'a Live,
+    c: Col,
+    id: ServiceId,
+) -> Result<Val<'a>, Memory>
+    ensures value { IfOk result (λ v. shown v ≡ service_value live.now.state id c.own) }
+    ensures plain { IsPlain (own_kind c.own) → IsOk result }
+{
+    let OwnColumn::Service(column) = c.own else {
+        return Ok(empty_value(alloc, kind(c)));
+    };
+    match ServiceRow::at(live, id) {
+        Some(row) => row.value(alloc, live, column),
+        None => Ok(empty_value(alloc, kind(c))),
     }
 }
