@@ -30,17 +30,19 @@ key_total = then_total (on_total (λ key. key.owner) nat_cmp_total) (then_total 
 abbrev pub is_below : NameKey → NameKey → Bool
 is_below a b = is_lt (key_cmp a b)
 
--- neither of two orderings that are turned is less
+-- where one order and then another isn't less, the first isn't
 head_tied : (r s : Ordering) → is_lt (ordering_then r s) ≡ false → is_lt r ≡ false
 head_tied Less s is = absurd (true≢false is)
 head_tied Equal s is = refl
 head_tied Greater s is = refl
 
+-- what is less neither way is equal
 both_tied : (r : Ordering) → is_lt r ≡ false → is_lt (ordering_reverse r) ≡ false → r ≡ Equal
 both_tied Less is back = absurd (true≢false is)
 both_tied Equal is back = refl
 both_tied Greater is back = absurd (true≢false back)
 
+-- numbers by their order
 le_from_cmp : (x y : ℕ) → is_lt (nat_cmp x y) ≡ false → y ≤ x
 le_from_cmp x y is =
     ⊎_elim (λ below. absurd (true≢false (sym (ap (λ test. is_lt (cond test Less (cond (x == y) Equal Greater))) (lt-ltb x y below)) ∙ is)))
@@ -54,6 +56,7 @@ le_cmp x y above =
     never_less true = refl
     never_less false = refl
 
+-- keys of one owner are ordered by name, and those of one name by place
 same_owner : (a b : NameKey) → a.owner ≡ b.owner → key_cmp a b ≡ ordering_then (slice_cmp nat_cmp a.name b.name) (nat_cmp a.place b.place)
 same_owner a b owner =
     ap (λ head. ordering_then head (ordering_then (slice_cmp nat_cmp a.name b.name) (nat_cmp a.place b.place)))
@@ -93,6 +96,7 @@ module _ (keys : List NameKey) (up : IsSorted key_cmp keys) (owner : ℕ) (name 
         ⊎_elim (λ low. absurd (true≢false (sym (point.0 k d (omega arith) low) ∙ never_before (get_or keys k d) has_owner has_name)))
         (λ high. high) (cases_lt k first)
 
+    -- where the search ends behind all keys, none has the name
     pub past : length keys ≤ first → All (λ other. other.owner ≡ owner → other.name ≢ name) keys
     past end k d within has_owner has_name = omega (arith, end, within, from_first k d within has_owner has_name)
 
