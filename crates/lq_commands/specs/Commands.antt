@@ -1,6 +1,7 @@
 -- The commands, and what each does with its fields.
 use Rattle.std.specs.Prelude.{ℕ, Option, Some, None, List, [], ◌∷◌, find, bytes_eq, codes}
 use Rattle.std.specs.Option.{option_and_then, option_map, unwrap_or}
+use Rattle.lq_records.specs.declared.base.Base.{Base}
 use Rattle.lq_records.specs.declared.ids.HostId.{HostId}
 use Rattle.lq_records.specs.declared.ids.ServiceId.{ServiceId}
 use Rattle.lq_records.specs.declared.object.Object.{Object}
@@ -9,7 +10,6 @@ use Rattle.lq_records.specs.declared.object.ObjectKind.{ObjectKind}
 use Rattle.lq_records.specs.declared.object.ObjectKind.TheVariants as kind
 use Rattle.lq_events.specs.declared.update.Act.{Act}
 use Rattle.lq_events.specs.declared.update.Act.TheVariants as act
-use Rattle.lq_commands.specs.Names.{KnownNames}
 use Rattle.lq_commands.specs.Fields.{Fields, all_fields, field, host_in, later, number_in, service_in}
 use Rattle.lq_commands.specs.Forms.{acknowledgement_in, after_object, check_result_in, comment_in, downtime_in, object_in}
 use Rattle.lq_commands.specs.declared.form.AcknowledgementFields.{AcknowledgementFields}
@@ -126,5 +126,5 @@ unfoldable pub act_in : Fields → Option Act
 act_in fields = option_and_then (λ word. act_by word (later fields)) (field fields)
 
 -- an unknown word and a faulty field have no effect
-unfoldable pub act_of : KnownNames → List ℕ → Act
-act_of names text = unwrap_or (act_in (all_fields names text)) act.Unknown
+unfoldable pub act_of : Base → List ℕ → Act
+act_of base text = unwrap_or (act_in (all_fields base text)) act.Unknown

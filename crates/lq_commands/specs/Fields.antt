@@ -4,19 +4,20 @@ use Rattle.std.specs.Char.{is_ascii_digit}
 use Rattle.std.specs.List.{after_first, before_first, list_all, position_or_len}
 use Rattle.std.specs.Option.{option_and_then, option_map}
 use Rattle.lq_text.specs.Numbers.{number_of}
+use Rattle.lq_records.specs.Named.{host_named, service_on}
+use Rattle.lq_records.specs.declared.base.Base.{Base}
 use Rattle.lq_records.specs.declared.ids.HostId.{HostId}
 use Rattle.lq_records.specs.declared.ids.ServiceId.{ServiceId}
-use Rattle.lq_commands.specs.Names.{KnownNames, host_named, service_named}
 
 -- The fields that are still to be read: the text from the next one on, which is None after the last
--- one, and the names by which they speak of hosts and services.
+-- one, and the base whose hosts and services they name.
 pub record Fields : Type 0 where
-  pub names : KnownNames
+  pub base : Base
   pub rest : Option (List ℕ)
 
 -- all fields of a command's text
-abbrev pub all_fields : KnownNames → List ℕ → Fields
-all_fields names text = record { names = names; rest = Some text }
+abbrev pub all_fields : Base → List ℕ → Fields
+all_fields base text = record { base = base; rest = Some text }
 
 -- the character `;`
 abbrev pub is_semicolon : ℕ → Bool
@@ -64,12 +65,18 @@ second_in fields = option_and_then second (field fields)
 -- ---- hosts and services
 
 unfoldable pub host_in : Fields → Option HostId
-host_in fields = option_and_then (host_named fields.names) (field fields)
+host_in fields = option_and_then (host_named fields.base.hosts) (field fields)
 
-abbrev pub service_of_two : KnownNames → Option (List ℕ) → Option (List ℕ) → Option ServiceId
-service_of_two names (Some host) (Some description) = service_named names host description
-service_of_two names _ _ = None
+-- the service that has a description on the host that has a name
+abbrev pub service_named : Base → List ℕ → List ℕ → Option ServiceId
+service_named base host description =
+    option_and_then (λ host. service_on base.services host description)
+    (host_named base.hosts host)
+
+abbrev pub service_of_two : Base → Option (List ℕ) → Option (List ℕ) → Option ServiceId
+service_of_two base (Some host) (Some description) = service_named base host description
+service_of_two base _ _ = None
 
 -- a service takes two fields: its host's name and its description
 unfoldable pub service_in : Fields → Option ServiceId
-service_in fields = service_of_two fields.names (field fields) (field (later fields))
+service_in fields = service_of_two fields.base (field fields) (field (later fields))

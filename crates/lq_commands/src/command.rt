@@ -4,17 +4,16 @@ ghost use Rattle.lq_commands.specs.Reading.{Gives};
 
 use crate::field::{FieldErr, Fields};
 use crate::form::{AcknowledgementFields, CheckResultFields, CommentFields, DowntimeFields};
-use crate::object_names::ObjectNames;
 use lq_events::Act;
-use lq_records::{Memory, Object, ObjectKind};
+use lq_records::{Base, Memory, Object, ObjectKind};
 use std::alloc::{AllocError, Global};
 
 /// What a command does. One with an unknown word or a faulty field does nothing.
 #[tactic(auto, unfolding(crate::specs::Commands::act_of))]
-pub(crate) fn act_of(alloc: Global, names: &ObjectNames, text: &str) -> Result<Act, Memory>
-    ensures { IfOk result (λ act. act ≡ act_of names.now text.now) }
+pub(crate) fn act_of(alloc: Global, base: &Base, text: &str) -> Result<Act, Memory>
+    ensures { IfOk result (λ act. act ≡ act_of base.now text.now) }
 {
-    let mut fields = Fields::of(alloc, names, text);
+    let mut fields = Fields::of(alloc, base, text);
     match act_in(&mut fields) {
         Ok(act) => Ok(act),
         Err(FieldErr::Faulty) => Ok(Act::Unknown),

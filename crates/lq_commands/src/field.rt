@@ -1,12 +1,10 @@
 ghost use Rattle.std.specs.Prelude.{◌≡◌, [], IfOk, OnOk};
 ghost use Rattle.std.specs.List.{before_first};
 ghost use Rattle.std.specs.Option.{option_copied, unwrap_or};
-ghost use Rattle.lq_commands.specs.Fields.{after, after_semicolon, all_fields, field, host_in, is_semicolon, later, number, number_in, second, second_in, service_in};
+ghost use Rattle.lq_commands.specs.Fields.{after, after_semicolon, all_fields, field, host_in, is_semicolon, later, number, number_in, second, second_in, service_in, service_named};
 ghost use Rattle.lq_commands.specs.Reading.{Gives};
 
-use crate::object_names::ObjectNames;
-use lq_names::Name;
-use lq_records::{HostId, Memory, ServiceId, Text};
+use lq_records::{Base, HostId, Memory, ServiceId, Text};
 use lq_text::read_u64;
 use std::alloc::{AllocError, Global};
 use std::marker::Model;
@@ -38,8 +36,8 @@ const MOST_SECOND_DIGITS: usize = 12;
 #[derive(Drop)]
 pub(crate) struct Fields<'a> {
     alloc: Global,
-    /// The names by which they speak of hosts and services.
-    names: &'a ObjectNames,
+    /// Whose hosts and services they name.
+    base: &'a Base,
     /// The text from the next field on. None after the last one.
     rest: Option<&'a str>,
 }
@@ -51,19 +49,19 @@ impl<'a> Model for Fields<'a> {
     ghost Value = { Fields };
 
     ghost view = { λ fields. record {
-      names = fields.names.now;
+      base = fields.base.now;
       rest = option_copied fields.rest;
     } };
 }
 
 impl<'a> Fields<'a> {
     /// All fields of a command's text.
-    pub(crate) fn of(alloc: Global, names: &'a ObjectNames, text: &'a str) -> Self
-        ensures { result ≡ all_fields names.now text.now }
+    pub(crate) fn of(alloc: Global, base: &'a Base, text: &'a str) -> Self
+        ensures { result ≡ all_fields base.now text.now }
     {
         Fields {
             alloc,
-            names,
+            base,
             rest: Some(text),
         }
     }
@@ -132,9 +130,8 @@ impl<'a> Fields<'a> {
         ensures value { Gives result (host_in self.old) }
         ensures rest { self.new ≡ later self.old }
     {
-        let name = Text::new(self.alloc, self.next().ok_or(FieldErr::Faulty)?)?;
-        let name = Name::single(name);
-        self.names.find_host(&name).ok_or(FieldErr::Faulty)
+        let name = self.next().ok_or(FieldErr::Faulty)?;
+        self.base.hosts.find(name).ok_or(FieldErr::Faulty)
     }
 
     /// Takes two fields that name a service: its host's name and its description.
@@ -145,17 +142,16 @@ impl<'a> Fields<'a> {
     {
         let host = self.next().ok_or(FieldErr::Faulty)?;
         let description = self.next().ok_or(FieldErr::Faulty)?;
-        let name = service_name(self.alloc, host, description)?;
-        self.names.find_service(&name).ok_or(FieldErr::Faulty)
+        service_named(self.base, host, description).ok_or(FieldErr::Faulty)
     }
 }
 
-/// The name that a service is looked up by.
-fn service_name(alloc: Global, host: &str, description: &str) -> Result<Name, Memory>
-    ensures { IfOk result (λ name. name ≡ record { first = host.now; second = description.now }) }
+/// The service that has a description on the host that has a name.
+fn service_named(base: &Base, host: &str, description: &str) -> Option<ServiceId>
+    ensures { result ≡ service_named base.now host.now description.now }
 {
-    let host = Text::new(alloc, host)?;
-    Ok(Name::new(host, Text::new(alloc, description)?))
+    let host = base.hosts.find(host)?;
+    base.services.find(host, description)
 }
 
 /// A text up to its first `;`, and what follows that `;`, None where there is none.

@@ -3,9 +3,8 @@ ghost use Rattle.lq_commands.specs.Orders.{order_of};
 ghost use Rattle.lq_commands.specs.Reading.{Reads};
 
 use crate::command::act_of;
-use crate::object_names::ObjectNames;
 use lq_events::Act;
-use lq_records::{Text, clean_text};
+use lq_records::{Base, Text, clean_text};
 use lq_text::bracketed_second;
 use std::alloc::{AllocError, Global};
 
@@ -48,18 +47,18 @@ impl From<AllocError> for CommandErr {
 ///
 /// The act is `Unknown` where no command has the word, a field is missing (only a check result's
 /// output may be: it is then empty), a field that should be a number isn't one or more digits below
-/// 2 ^ 64, a start or an end has more than 12 digits, no such host or service is known, or the code
+/// 2 ^ 64, a start or an end has more than 12 digits, no such host or service is in the base, or the code
 /// of a check's result is above 2 for a host and above 3 for a service.
 ///
 /// The errors are `NoTime`, exactly where the line doesn't begin with `[`, 1 to 12 digits and `]`,
 /// and `Memory`, out of memory.
-pub fn read_command(alloc: Global, names: &ObjectNames, line: &[u8]) -> Result<Order, CommandErr>
-    ensures { Reads result (order_of names.now line.now) }
+pub fn read_command(alloc: Global, base: &Base, line: &[u8]) -> Result<Order, CommandErr>
+    ensures { Reads result (order_of base.now line.now) }
 {
     let Some((time, start)) = bracketed_second(line) else {
         return Err(CommandErr::NoTime);
     };
     let text = clean_text(alloc, &line[start..])?;
-    let act = act_of(alloc, names, text.as_str())?;
+    let act = act_of(alloc, base, text.as_str())?;
     Ok(Order { time, text, act })
 }

@@ -1,8 +1,9 @@
 //! What a command line says: its second, its text and what it does.
 
-use crate::fixture::{joined, names_of};
-use lq_commands::{CommandErr, ObjectNames, read_command};
+use crate::fixture::{base_of, joined};
+use lq_commands::{CommandErr, read_command};
 use lq_events::Act;
+use lq_records::Base;
 use std::alloc::Global;
 use std::process::Abort;
 use std::test::Fail;
@@ -160,11 +161,11 @@ fn is_said(act: &Act, (word, object, numbers, texts): Said<'_>) -> bool {
 /// Whether a line says a second, a text and an act.
 fn is_order(
     alloc: Global,
-    names: &ObjectNames,
+    base: &Base,
     line: &[u8],
     (time, text, said): (u64, &str, Said<'_>),
 ) -> bool {
-    let Some(order) = read_command(alloc, names, line).ok() else {
+    let Some(order) = read_command(alloc, base, line).ok() else {
         return false;
     };
     let is_same = order.time == time && order.text.as_str() == text && is_said(&order.act, said);
@@ -175,13 +176,13 @@ fn is_order(
 /// Compares what a text says behind the second 1.
 fn assert_said<R: Abort + AllocGlobal>(
     rt: &R,
-    names: &ObjectNames,
+    base: &Base,
     (front, text): (&str, &str),
     said: Said<'_>,
 ) -> Result<(), Fail> {
     let line = joined(rt.alloc(), &[front.as_bytes(), text.as_bytes()])?;
     assert!(rt;
-        is_order(rt.alloc(), names, &line, (1, text, said)),
+        is_order(rt.alloc(), base, &line, (1, text, said)),
         "at {text:?}"
     );
     Ok(())
@@ -312,20 +313,20 @@ const UNKNOWN: &[&str] = &[
     "DISABLE_NOTIFICATION",
 ];
 
-fn assert_all_said<R: Abort + AllocGlobal>(rt: &R, names: &ObjectNames) -> Result<(), Fail> {
+fn assert_all_said<R: Abort + AllocGlobal>(rt: &R, base: &Base) -> Result<(), Fail> {
     for (text, said) in SAID {
-        assert_said(rt, names, ("[1] ", *text), *said)?;
+        assert_said(rt, base, ("[1] ", *text), *said)?;
     }
     for text in UNKNOWN {
-        assert_said(rt, names, ("[1] ", *text), NOTHING)?;
+        assert_said(rt, base, ("[1] ", *text), NOTHING)?;
     }
     Ok(())
 }
 
 #[test]
 fn each_command_says_its_fields(rt: HostRuntime) -> Result<(), Fail> {
-    let names = names_of(rt.alloc(), OBJECTS)?;
-    assert_all_said(&rt, &names)
+    let base = base_of(rt.alloc(), OBJECTS)?;
+    assert_all_said(&rt, &base)
 }
 
 /// The word of each command that has fields, and lists of fields, with bars between them, with
@@ -388,28 +389,28 @@ const MALFORMED: &[(&str, &str)] = &[
 
 fn assert_malformed<R: Abort + AllocGlobal>(
     rt: &R,
-    names: &ObjectNames,
+    base: &Base,
     (word, lists): (&str, &str),
 ) -> Result<(), Fail> {
-    assert_said(rt, names, ("[1]", word), NOTHING)?;
+    assert_said(rt, base, ("[1]", word), NOTHING)?;
     for fields in lists.split('|') {
         let text = format!(in rt.alloc(); "{word};{fields}")?;
-        assert_said(rt, names, ("[1] ", text.as_str()), NOTHING)?;
+        assert_said(rt, base, ("[1] ", text.as_str()), NOTHING)?;
     }
     Ok(())
 }
 
-fn assert_all_malformed<R: Abort + AllocGlobal>(rt: &R, names: &ObjectNames) -> Result<(), Fail> {
+fn assert_all_malformed<R: Abort + AllocGlobal>(rt: &R, base: &Base) -> Result<(), Fail> {
     for malformed in MALFORMED {
-        assert_malformed(rt, names, *malformed)?;
+        assert_malformed(rt, base, *malformed)?;
     }
     Ok(())
 }
 
 #[test]
 fn a_command_wants_its_fields(rt: HostRuntime) -> Result<(), Fail> {
-    let names = names_of(rt.alloc(), OBJECTS)?;
-    assert_all_malformed(&rt, &names)
+    let base = base_of(rt.alloc(), OBJECTS)?;
+    assert_all_malformed(&rt, &base)
 }
 
 /// Lines, the second and the text that they have, and what they say.
@@ -445,28 +446,25 @@ const WITHOUT_SECOND: &[&[u8]] = &[
     b"[1234567890123] ENABLE_NOTIFICATIONS",
 ];
 
-fn has_no_second(alloc: Global, names: &ObjectNames, line: &[u8]) -> bool {
-    match read_command(alloc, names, line).err() {
+fn has_no_second(alloc: Global, base: &Base, line: &[u8]) -> bool {
+    match read_command(alloc, base, line).err() {
         Some(CommandErr::NoTime) => true,
         _ => false,
     }
 }
 
-fn assert_seconds<R: Abort + AllocGlobal>(rt: &R, names: &ObjectNames) {
+fn assert_seconds<R: Abort + AllocGlobal>(rt: &R, base: &Base) {
     for (line, expected) in SECONDS {
-        assert!(rt;
-            is_order(rt.alloc(), names, *line, *expected),
-            "at {line:?}"
-        );
+        assert!(rt; is_order(rt.alloc(), base, *line, *expected), "at {line:?}");
     }
     for line in WITHOUT_SECOND {
-        assert!(rt; has_no_second(rt.alloc(), names, *line), "at {line:?}");
+        assert!(rt; has_no_second(rt.alloc(), base, *line), "at {line:?}");
     }
 }
 
 #[test]
 fn a_line_begins_with_its_second(rt: HostRuntime) -> Result<(), Fail> {
-    let names = names_of(rt.alloc(), OBJECTS)?;
-    assert_seconds(&rt, &names);
+    let base = base_of(rt.alloc(), OBJECTS)?;
+    assert_seconds(&rt, &base);
     Ok(())
 }

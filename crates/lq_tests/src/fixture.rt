@@ -3,7 +3,7 @@
 ghost use Rattle.std.specs.Prelude.{IfOk};
 ghost use Rattle.lq_records.specs.Sound.{IsSound};
 
-use lq_commands::{ObjectNames, Order, read_command};
+use lq_commands::{Order, read_command};
 use lq_events::{Act, Update};
 use lq_live::Live;
 use lq_log::LogBook;
@@ -143,10 +143,10 @@ define servicegroup {
  }
 ";
 
-/// The names by which commands speak of objects, and the state that the commands change.
+/// The base whose objects commands name, and the state that the commands change.
 #[derive(Drop)]
 pub(crate) struct Site {
-    pub names: ObjectNames,
+    pub named: Base,
     pub live: Live,
 }
 
@@ -173,21 +173,13 @@ pub(crate) fn push_all(text: &mut String, parts: &[&str]) -> Result<(), AllocErr
 }
 
 /// The base of an object file, which is without a fault.
-fn base_of(alloc: Global, objects: &[u8]) -> Result<Base, Fail>
+pub(crate) fn base_of(alloc: Global, objects: &[u8]) -> Result<Base, Fail>
     ensures { IfOk result IsSound }
 {
     match read_objects(alloc, objects, Rules::default()) {
         Ok(base) => Ok(base),
         Err(_) => Err(Fail::new("the object file is refused")),
     }
-}
-
-/// The names of an object file.
-pub(crate) fn names_of(alloc: Global, objects: &[u8]) -> Result<ObjectNames, Fail> {
-    let base = base_of(alloc, objects)?;
-    let names = ObjectNames::of(alloc, &base);
-    drop(base);
-    Ok(names?)
 }
 
 /// The opening state of an object file.
@@ -208,12 +200,12 @@ pub(crate) fn asked(
 }
 
 impl Site {
-    /// The site of an object file, whose commands know the names of another one. It is in a box, so
+    /// The site of an object file, whose commands name the objects of another one. It is in a box, so
     /// that how its many parts are dropped is proved once.
-    pub(crate) fn open(alloc: Global, names: &[u8], objects: &[u8]) -> Result<Box<Self>, Fail> {
-        let names = names_of(alloc, names)?;
+    pub(crate) fn open(alloc: Global, named: &[u8], objects: &[u8]) -> Result<Box<Self>, Fail> {
+        let named = base_of(alloc, named)?;
         let live = live_of(alloc, objects)?;
-        Ok(Box::new(alloc, Site { names, live })?)
+        Ok(Box::new(alloc, Site { named, live })?)
     }
 
     /// Plays commands, one a line.
@@ -227,7 +219,7 @@ impl Site {
     }
 
     fn play_line(&mut self, alloc: Global, line: &str) -> Result<(), Fail> {
-        match read_command(alloc, &self.names, line.as_bytes()) {
+        match read_command(alloc, &self.named, line.as_bytes()) {
             Ok(Order { time, text, act }) => Ok(self.apply(time, text, act)?),
             Err(_) => Err(Fail::new("a command without a second")),
         }

@@ -5,8 +5,9 @@ use Rattle.std.specs.Io.KnownBytes.{Appends}
 use Rattle.std.proofs.KnownBytes.{Appends-nil}
 use Rattle.lq_request.specs.Messages.{message_limit, Message, Piece, Query, Command, TooLong, Empty, More, messages, whole_messages, first_piece, message_of, message_at, whole, command_from, query_from, IsCutOff, IsLast}
 use Rattle.lq_request.specs.Request.{asked}
-use Rattle.lqd.specs.Replies.{keeps, reply_to}
-use Rattle.lqd.specs.Session.{Standing, ComesFirst, Serves, ServesLast, FindsNone, Breaks, BreaksReply, standing_after}
+use Rattle.lq_live.specs.State.{Counted}
+use Rattle.lqd.specs.Replies.{after_piece, keeps, reply_to}
+use Rattle.lqd.specs.Session.{ComesFirst, Serves, ServesLast, FindsNone, Breaks, BreaksReply}
 use Rattle.lqd.specs.declared.session.ServeErr.{ServeErr}
 use Rattle.lqd.specs.declared.session.ServeErr.TheVariants as error
 
@@ -16,8 +17,8 @@ comes_first ended held left piece cut = record {
   known = λ rest more. (whole_messages (left ++ rest), cut.known rest more);
 }
 
-pub query_served : (ended : Bool) (held left text : List ℕ) (old : Standing) (out_old out : Option (List ℕ)) → IsCutOff ended held (Query text) left
-    → true ≡ keeps (asked text) → Appends out_old out (reply_to (asked text) old.at.state) → Serves ended held left old old out_old out
+pub query_served : (ended : Bool) (held left text : List ℕ) (old : Counted) (out_old out : Option (List ℕ)) → IsCutOff ended held (Query text) left
+    → true ≡ keeps (asked text) → Appends out_old out (reply_to (asked text) old.state) → Serves ended held left old old out_old out
 query_served ended held left text old out_old out cut keep written = record {
   piece = Query text;
   cut = cut;
@@ -26,8 +27,8 @@ query_served ended held left text old out_old out cut keep written = record {
   written = written;
 }
 
-pub last_query_served : (ended : Bool) (held left text : List ℕ) (old : Standing) (out_old out : Option (List ℕ)) → IsCutOff ended held (Query text) left
-    → false ≡ keeps (asked text) → Appends out_old out (reply_to (asked text) old.at.state) → ServesLast ended held old out_old out
+pub last_query_served : (ended : Bool) (held left text : List ℕ) (old : Counted) (out_old out : Option (List ℕ)) → IsCutOff ended held (Query text) left
+    → false ≡ keeps (asked text) → Appends out_old out (reply_to (asked text) old.state) → ServesLast ended held old out_old out
 last_query_served ended held left text old out_old out cut keep written = record {
   piece = Query text;
   first = comes_first ended held left (Query text) cut;
@@ -35,8 +36,8 @@ last_query_served ended held left text old out_old out cut keep written = record
   written = written;
 }
 
-pub query_broken : (fault : ServeErr) (ended : Bool) (held left text : List ℕ) (old : Standing) (out_old out : Option (List ℕ)) → IsCutOff ended held (Query text) left
-    → BreaksReply fault (reply_to (asked text) old.at.state) out_old out → Breaks fault ended held old out_old out
+pub query_broken : (fault : ServeErr) (ended : Bool) (held left text : List ℕ) (old : Counted) (out_old out : Option (List ℕ)) → IsCutOff ended held (Query text) left
+    → BreaksReply fault (reply_to (asked text) old.state) out_old out → Breaks fault ended held old out_old out
 query_broken error.Read ended held left text old out_old out cut breaks = breaks
 query_broken error.Write ended held left text old out_old out cut breaks = record {
   piece = Query text;
@@ -45,8 +46,8 @@ query_broken error.Write ended held left text old out_old out cut breaks = recor
 }
 query_broken error.Memory ended held left text old out_old out cut breaks = breaks
 
-pub command_served : (ended : Bool) (held left text : List ℕ) (old new : Standing) (out : Option (List ℕ)) → IsCutOff ended held (Command text) left
-    → new ≡ standing_after old (Command text) → Serves ended held left old new out out
+pub command_served : (ended : Bool) (held left text : List ℕ) (old new : Counted) (out : Option (List ℕ)) → IsCutOff ended held (Command text) left
+    → new ≡ after_piece old (Command text) → Serves ended held left old new out out
 command_served ended held left text old new out cut state = record {
   piece = Command text;
   cut = cut;
@@ -55,7 +56,7 @@ command_served ended held left text old new out cut state = record {
   written = Appends-nil out;
 }
 
-pub too_long_served : (ended : Bool) (held front : List ℕ) (old : Standing) (out : Option (List ℕ)) → IsLast ended held (TooLong front)
+pub too_long_served : (ended : Bool) (held front : List ℕ) (old : Counted) (out : Option (List ℕ)) → IsLast ended held (TooLong front)
     → ServesLast ended held old out out
 too_long_served ended held front old out is = record {
   piece = TooLong front;

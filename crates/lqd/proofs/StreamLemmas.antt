@@ -7,12 +7,11 @@ use Rattle.std.proofs.KnownBytes.{Consumes-nil, Consumes-trans, Consumes-kept, A
 use Rattle.std.proofs.lemmas.Bool.Decides.{nat_tests}
 use Rattle.std.proofs.lemmas.Grind.{common_steps}
 use Rattle.lq_outside.specs.Sinks.{AppendsFront}
-use Rattle.lq_commands.specs.Names.{KnownNames, names_of}
 use Rattle.lq_live.specs.State.{State, Counted}
 use Rattle.lq_request.specs.Messages.{Piece, messages, messages_up_to, whole_messages}
 use Rattle.lqd.specs.Reading.{ReadsAll, ReadsNoFurther, RepliesToFirst, RepliesToRead}
 use Rattle.lqd.specs.Replies.{after_piece, is_last, is_over, opening, replies, replies_from, replies_to, reply_to_piece}
-use Rattle.lqd.specs.Session.{Standing, Fills, Serves, ServesLast, FindsNone, WantsMore, CutsShort, Breaks, Stops, standing_after, first_standing}
+use Rattle.lqd.specs.Session.{Fills, Serves, ServesLast, FindsNone, WantsMore, CutsShort, Breaks, Stops}
 use Rattle.lqd.specs.declared.session.ServeErr.{ServeErr}
 use Rattle.lqd.specs.declared.session.ServeErr.TheVariants as error
 
@@ -40,7 +39,7 @@ take_none (suc n) xs is = rw is refl
 -- ---- where a connection stands
 
 -- What was read, the messages that were served, what was written, and what is still to come.
-pub record Stands (s : State) (old left out_old out : Option (List ℕ)) (now : Standing) (ended : Bool) (held : List ℕ) (room : ℕ) : Type 0 where
+pub record Stands (s : State) (old left out_old out : Option (List ℕ)) (now : Counted) (ended : Bool) (held : List ℕ) (room : ℕ) : Type 0 where
   pub taken : List ℕ
   pub done : List Piece
   pub written : List ℕ
@@ -51,9 +50,9 @@ pub record Stands (s : State) (old left out_old out : Option (List ℕ)) (now : 
   pub count : length done + room ≡ 10000
   pub kept : list_any is_last done ≡ false
   pub appended : Appends out_old out written
-  pub replies : (later : List Piece) → replies_from (names_of s.base) (opening s) (done ++ later) ≡ written ++ replies_from now.names now.at later
+  pub replies : (later : List Piece) → replies_from (opening s) (done ++ later) ≡ written ++ replies_from now later
 
-stands_at_first : (s : State) (left out : Option (List ℕ)) → Stands s left left out out (first_standing s) false [] 10000
+stands_at_first : (s : State) (left out : Option (List ℕ)) → Stands s left left out out (opening s) false [] 10000
 stands_at_first s left out = record {
   taken = [];
   done = [];
@@ -68,18 +67,18 @@ stands_at_first s left out = record {
   replies = λ later. refl;
 }
 
-pub stands_first : (s : State) (left out : Option (List ℕ)) (now : Standing) (held : List ℕ) → now ≡ first_standing s → held ≡ [] → Stands s left left out out now false held 10000
+pub stands_first : (s : State) (left out : Option (List ℕ)) (now : Counted) (held : List ℕ) → now ≡ opening s → held ≡ [] → Stands s left left out out now false held 10000
 stands_first s left out now held is none = rw (is, none) (stands_at_first s left out)
 
 -- ---- one message more
 
-one_reply : (names : KnownNames) (at : Counted) (piece : Piece) (later : List Piece) → is_last piece ≡ false
-    → replies_from names at (piece ∷ later) ≡ reply_to_piece piece at.state ++ replies_from names (after_piece names at piece) later
-one_reply names at piece later kept = rw kept refl
+one_reply : (at : Counted) (piece : Piece) (later : List Piece) → is_last piece ≡ false
+    → replies_from at (piece ∷ later) ≡ reply_to_piece piece at.state ++ replies_from (after_piece at piece) later
+one_reply at piece later kept = rw kept refl
 
-last_reply : (names : KnownNames) (at : Counted) (piece : Piece) (later : List Piece) → is_last piece ≡ true
-    → replies_from names at (piece ∷ later) ≡ reply_to_piece piece at.state
-last_reply names at piece later last = rw last (append_none (reply_to_piece piece at.state))
+last_reply : (at : Counted) (piece : Piece) (later : List Piece) → is_last piece ≡ true
+    → replies_from at (piece ∷ later) ≡ reply_to_piece piece at.state
+last_reply at piece later last = rw last (append_none (reply_to_piece piece at.state))
 
 rest_kept : (first later more : Bool) → (first || later) ≡ false → (later ≡ false → more ≡ false) → (first || more) ≡ false
 rest_kept true later more is rest = absurd (cc)
@@ -89,34 +88,34 @@ one_more_kept : (done : List Piece) (piece : Piece) → list_any is_last done �
 one_more_kept [] piece before kept = rw kept refl
 one_more_kept (first ∷ done) piece before kept = rest_kept (is_last first) (list_any is_last done) (list_any is_last (done ++ piece ∷ [])) before (λ later. one_more_kept done piece later kept)
 
-stands_behind : (s : State) (old left out_old out out_new : Option (List ℕ)) (now next : Standing) (ended : Bool) (held held_new : List ℕ) (room less : ℕ)
+stands_behind : (s : State) (old left out_old out out_new : Option (List ℕ)) (now next : Counted) (ended : Bool) (held held_new : List ℕ) (room less : ℕ)
     → Stands s old left out_old out now ended held room → (serves : Serves ended held held_new now next out out_new) → room ≡ less + 1
-    → Stands s old left out_old out_new (standing_after now serves.piece) ended held_new less
+    → Stands s old left out_old out_new (after_piece now serves.piece) ended held_new less
 stands_behind s old left out_old out out_new now next ended held held_new room less at serves is = record {
   taken = at.taken;
   done = at.done ++ serves.piece ∷ [];
-  written = at.written ++ reply_to_piece serves.piece now.at.state;
+  written = at.written ++ reply_to_piece serves.piece now.state;
   consumed = at.consumed;
   at_end = at.at_end;
   all = λ rest closed. at.all rest closed ∙ ap (λ later. at.done ++ later) (serves.cut.all rest closed) ∙ sym (append_assoc at.done (serves.piece ∷ []) (messages (held_new ++ rest)));
   known = λ rest more. at.known rest more ∙ ap (λ later. at.done ++ later) (serves.cut.known rest more) ∙ sym (append_assoc at.done (serves.piece ∷ []) (whole_messages (held_new ++ rest)));
   count = omega (arith, length-append at.done (serves.piece ∷ []), at.count, is);
   kept = one_more_kept at.done serves.piece at.kept serves.kept;
-  appended = Appends-trans out_old out out_new at.written (reply_to_piece serves.piece now.at.state) at.appended serves.written;
-  replies = λ later. ap (replies_from (names_of s.base) (opening s)) (append_assoc at.done (serves.piece ∷ []) later) ∙ at.replies (serves.piece ∷ later)
-      ∙ ap (λ bytes. at.written ++ bytes) (one_reply now.names now.at serves.piece later serves.kept)
-      ∙ sym (append_assoc at.written (reply_to_piece serves.piece now.at.state) (replies_from now.names (after_piece now.names now.at serves.piece) later));
+  appended = Appends-trans out_old out out_new at.written (reply_to_piece serves.piece now.state) at.appended serves.written;
+  replies = λ later. ap (replies_from (opening s)) (append_assoc at.done (serves.piece ∷ []) later) ∙ at.replies (serves.piece ∷ later)
+      ∙ ap (λ bytes. at.written ++ bytes) (one_reply now serves.piece later serves.kept)
+      ∙ sym (append_assoc at.written (reply_to_piece serves.piece now.state) (replies_from (after_piece now serves.piece) later));
 }
 
-pub stands_next : (s : State) (old left out_old out out_new : Option (List ℕ)) (now next : Standing) (ended : Bool) (held held_new : List ℕ) (room less : ℕ)
+pub stands_next : (s : State) (old left out_old out out_new : Option (List ℕ)) (now next : Counted) (ended : Bool) (held held_new : List ℕ) (room less : ℕ)
     → Stands s old left out_old out now ended held room → Serves ended held held_new now next out out_new → room ≡ less + 1
     → Stands s old left out_old out_new next ended held_new less
 stands_next s old left out_old out out_new now next ended held held_new room less at serves is =
-    subst (λ standing. Stands s old left out_old out_new standing ended held_new less) (sym serves.state)
+    subst (λ after. Stands s old left out_old out_new after ended held_new less) (sym serves.state)
     (stands_behind s old left out_old out out_new now next ended held held_new room less at serves is)
 
 -- nothing more was written
-stands_still : (s : State) (old left out_old out out_new : Option (List ℕ)) (now : Standing) (ended : Bool) (held : List ℕ) (room : ℕ)
+stands_still : (s : State) (old left out_old out out_new : Option (List ℕ)) (now : Counted) (ended : Bool) (held : List ℕ) (room : ℕ)
     → Stands s old left out_old out now ended held room → Appends out out_new [] → Stands s old left out_old out_new now ended held room
 stands_still s old left out_old out out_new now ended held room at still = record {
   taken = at.taken;
@@ -133,7 +132,7 @@ stands_still s old left out_old out out_new now ended held room at still = recor
 }
 
 -- more was read
-stands_filled : (s : State) (old left left_new out_old out : Option (List ℕ)) (now : Standing) (ended : Bool) (held held_new : List ℕ) (room : ℕ)
+stands_filled : (s : State) (old left left_new out_old out : Option (List ℕ)) (now : Counted) (ended : Bool) (held held_new : List ℕ) (room : ℕ)
     → Stands s old left out_old out now false held room → Fills ended left left_new held held_new → Stands s old left_new out_old out now ended held_new room
 stands_filled s old left left_new out_old out now ended held held_new room at fills =
     let same : (rest : List ℕ) → held ++ (fills.bytes ++ rest) ≡ held_new ++ rest =
@@ -152,7 +151,7 @@ stands_filled s old left left_new out_old out now ended held held_new room at fi
       replies = at.replies;
     }
 
-pub stands_read : (s : State) (old left left_new out_old out out_new : Option (List ℕ)) (now next : Standing) (ended ended_new : Bool) (held mid held_new : List ℕ) (room : ℕ)
+pub stands_read : (s : State) (old left left_new out_old out out_new : Option (List ℕ)) (now next : Counted) (ended ended_new : Bool) (held mid held_new : List ℕ) (room : ℕ)
     → Stands s old left out_old out now ended held room → WantsMore ended held mid now next out out_new → Fills ended_new left left_new mid held_new
     → Stands s old left_new out_old out_new next ended_new held_new room
 stands_read s old left left_new out_old out out_new now next ended ended_new held mid held_new room at wants fills =
@@ -163,17 +162,17 @@ stands_read s old left left_new out_old out out_new now next ended ended_new hel
 
 -- ---- the end
 
-replies_done : (s : State) (old left out_old out : Option (List ℕ)) (now : Standing) (ended : Bool) (held : List ℕ) (room : ℕ)
+replies_done : (s : State) (old left out_old out : Option (List ℕ)) (now : Counted) (ended : Bool) (held : List ℕ) (room : ℕ)
     (at : Stands s old left out_old out now ended held room) (later : List Piece)
-    → replies_to s (at.done ++ later) ≡ at.written ++ replies_from now.names now.at (take room later)
+    → replies_to s (at.done ++ later) ≡ at.written ++ replies_from now (take room later)
 unfolding replies_to
 replies_done s old left out_old out now ended held room at later =
-    ap (replies_from (names_of s.base) (opening s)) (take_done 10000 at.done later room at.count) ∙ at.replies (take room later)
+    ap (replies_from (opening s)) (take_done 10000 at.done later room at.count) ∙ at.replies (take room later)
 
 -- all replies were written where the bytes are those to what was left
-input_replied : (s : State) (old left out_old out out_new : Option (List ℕ)) (now : Standing) (ended : Bool) (held : List ℕ) (room : ℕ) (bytes : List ℕ)
+input_replied : (s : State) (old left out_old out out_new : Option (List ℕ)) (now : Counted) (ended : Bool) (held : List ℕ) (room : ℕ) (bytes : List ℕ)
     → Stands s old left out_old out now ended held room → Appends out out_new bytes
-    → ((rest : List ℕ) → (IsTrue ended → rest ≡ []) → replies_from now.names now.at (take room (messages (held ++ rest))) ≡ bytes)
+    → ((rest : List ℕ) → (IsTrue ended → rest ≡ []) → replies_from now (take room (messages (held ++ rest))) ≡ bytes)
     → IfSome old (λ input. Appends out_old out_new (replies s input))
 input_replied s None left out_old out out_new now ended held room bytes at more tail = tt
 input_replied s (Some input) None out_old out out_new now ended held room bytes at more tail = absurd at.consumed
@@ -183,28 +182,28 @@ input_replied s (Some input) (Some rest) out_old out out_new now ended held room
     ∙ replies_done s (Some input) (Some rest) out_old out now ended held room at (messages (held ++ rest)) ∙ ap (λ later. at.written ++ later) (tail rest at.at_end) in
     subst (λ all. Appends out_old out_new all) (sym is) (Appends-trans out_old out out_new at.written bytes at.appended more)
 
-last_tail : (names : KnownNames) (at : Counted) (piece : Piece) (later : List Piece) (room less : ℕ) → is_last piece ≡ true → room ≡ less + 1
-    → replies_from names at (take room (piece ∷ later)) ≡ reply_to_piece piece at.state
-last_tail names at piece later zero less last is = absurd (omega (arith, is))
-last_tail names at piece later (suc room) less last is = last_reply names at piece (take room later) last
+last_tail : (at : Counted) (piece : Piece) (later : List Piece) (room less : ℕ) → is_last piece ≡ true → room ≡ less + 1
+    → replies_from at (take room (piece ∷ later)) ≡ reply_to_piece piece at.state
+last_tail at piece later zero less last is = absurd (omega (arith, is))
+last_tail at piece later (suc room) less last is = last_reply at piece (take room later) last
 
-pub last_replied : (s : State) (old left out_old out out_new : Option (List ℕ)) (now : Standing) (ended : Bool) (held : List ℕ) (room : ℕ)
+pub last_replied : (s : State) (old left out_old out out_new : Option (List ℕ)) (now : Counted) (ended : Bool) (held : List ℕ) (room : ℕ)
     → Stands s old left out_old out now ended held room → ServesLast ended held now out out_new → 0 < room
     → IfSome old (λ input. Appends out_old out_new (replies s input))
 last_replied s old left out_old out out_new now ended held room at serves some =
-    input_replied s old left out_old out out_new now ended held room (reply_to_piece serves.piece now.at.state) at serves.written
+    input_replied s old left out_old out out_new now ended held room (reply_to_piece serves.piece now.state) at serves.written
     (λ rest closed. let first = serves.first.all rest closed in
-    ap (λ later. replies_from now.names now.at (take room later)) first.1 ∙ last_tail now.names now.at serves.piece first.0 room (room - 1) serves.last (omega (arith, some)))
+    ap (λ later. replies_from now (take room later)) first.1 ∙ last_tail now serves.piece first.0 room (room - 1) serves.last (omega (arith, some)))
 
-pub none_replied : (s : State) (old left out_old out out_new : Option (List ℕ)) (now : Standing) (ended : Bool) (held : List ℕ) (room : ℕ)
+pub none_replied : (s : State) (old left out_old out out_new : Option (List ℕ)) (now : Counted) (ended : Bool) (held : List ℕ) (room : ℕ)
     → Stands s old left out_old out now ended held room → FindsNone ended held out out_new
     → IfSome old (λ input. Appends out_old out_new (replies s input))
 none_replied s old left out_old out out_new now ended held room at finds =
     input_replied s old left out_old out out_new now ended held room [] at finds.written
     (λ rest closed. let none : messages (held ++ rest) ≡ [] = ap (λ more. messages (held ++ more)) (closed finds.end) ∙ ap messages (append_none held) ∙ finds.none in
-    ap (λ later. replies_from now.names now.at (take room later)) none ∙ ap (replies_from now.names now.at) (take_none room [] refl))
+    ap (λ later. replies_from now (take room later)) none ∙ ap (replies_from now) (take_none room [] refl))
 
-pub full_replied : (s : State) (old left out_old out : Option (List ℕ)) (now : Standing) (ended : Bool) (held : List ℕ) (room : ℕ)
+pub full_replied : (s : State) (old left out_old out : Option (List ℕ)) (now : Counted) (ended : Bool) (held : List ℕ) (room : ℕ)
     → Stands s old left out_old out now ended held room → room ≡ 0 → IfSome old (λ input. Appends out_old out (replies s input))
 full_replied s old left out_old out now ended held room at none =
     input_replied s old left out_old out out now ended held room [] at (Appends-nil out) (λ rest closed. rw none refl)
@@ -236,11 +235,11 @@ not_over done room less is more before =
     rw few before
 
 -- the messages that are whole in what was read
-whole_taken : (s : State) (old left out_old out : Option (List ℕ)) (now : Standing) (held : List ℕ) (room : ℕ)
+whole_taken : (s : State) (old left out_old out : Option (List ℕ)) (now : Counted) (held : List ℕ) (room : ℕ)
     (at : Stands s old left out_old out now false held room) → whole_messages at.taken ≡ at.done ++ whole_messages (held ++ [])
 whole_taken s old left out_old out now held room at = ap whole_messages (sym (append_none at.taken)) ∙ at.known [] refl
 
-pub last_read : (s : State) (old left out_old out out_new : Option (List ℕ)) (now : Standing) (ended : Bool) (held : List ℕ) (room : ℕ)
+pub last_read : (s : State) (old left out_old out out_new : Option (List ℕ)) (now : Counted) (ended : Bool) (held : List ℕ) (room : ℕ)
     → Stands s old left out_old out now ended held room → ServesLast ended held now out out_new → ReadsAll old left
 last_read s old left out_old out out_new now true held room at serves = record { taken = at.taken; consumed = at.consumed; enough = inl (at.at_end refl) }
 last_read s old left out_old out out_new now false held room at serves =
@@ -251,11 +250,11 @@ last_read s old left out_old out out_new now false held room at serves =
       enough = inr (ap is_over (whole_taken s old left out_old out now held room at ∙ ap (λ later. at.done ++ later) first.1) ∙ over_by_last at.done serves.piece first.0 serves.last);
     }
 
-pub none_read : (s : State) (old left out_old out out_new : Option (List ℕ)) (now : Standing) (ended : Bool) (held : List ℕ) (room : ℕ)
+pub none_read : (s : State) (old left out_old out out_new : Option (List ℕ)) (now : Counted) (ended : Bool) (held : List ℕ) (room : ℕ)
     → Stands s old left out_old out now ended held room → FindsNone ended held out out_new → ReadsAll old left
 none_read s old left out_old out out_new now ended held room at finds = record { taken = at.taken; consumed = at.consumed; enough = inl (at.at_end finds.end) }
 
-pub full_read : (s : State) (old left out_old out : Option (List ℕ)) (now : Standing) (ended : Bool) (held : List ℕ) (room : ℕ)
+pub full_read : (s : State) (old left out_old out : Option (List ℕ)) (now : Counted) (ended : Bool) (held : List ℕ) (room : ℕ)
     → Stands s old left out_old out now ended held room → room ≡ 0 → ReadsAll old left
 full_read s old left out_old out now true held room at none = record { taken = at.taken; consumed = at.consumed; enough = inl (at.at_end refl) }
 full_read s old left out_old out now false held room at none = record {
@@ -267,7 +266,7 @@ full_read s old left out_old out now false held room at none = record {
 -- ---- no read after the end
 
 -- before a read all messages that are whole in what was read were served
-whole_done : (s : State) (old left out_old out : Option (List ℕ)) (now : Standing) (held : List ℕ) (room : ℕ)
+whole_done : (s : State) (old left out_old out : Option (List ℕ)) (now : Counted) (held : List ℕ) (room : ℕ)
     (at : Stands s old left out_old out now false held room) → whole_messages held ≡ [] → whole_messages at.taken ≡ at.done
 whole_done s old left out_old out now held room at none =
     whole_taken s old left out_old out now held room at ∙ ap (λ bytes. at.done ++ whole_messages bytes) (append_none held)
@@ -277,7 +276,7 @@ pub none_further : (left : Option (List ℕ)) → ReadsNoFurther left left
 unfolding is_over whole_messages messages_up_to
 none_further left = record { before = []; last = []; consumed = Consumes-nil left; goes_on = refl; few = omega arith }
 
-pub one_further : (s : State) (old left left_new out_old out out_new : Option (List ℕ)) (now next : Standing) (ended ended_new : Bool) (held mid held_new : List ℕ) (room : ℕ)
+pub one_further : (s : State) (old left left_new out_old out out_new : Option (List ℕ)) (now next : Counted) (ended ended_new : Bool) (held mid held_new : List ℕ) (room : ℕ)
     → Stands s old left out_old out now ended held room → WantsMore ended held mid now next out out_new → Fills ended_new left left_new mid held_new → 0 < room
     → ReadsNoFurther old left_new
 one_further s old left left_new out_old out out_new now next ended ended_new held mid held_new room at wants fills some =
@@ -293,13 +292,13 @@ one_further s old left left_new out_old out out_new now next ended ended_new hel
 -- ---- where it breaks off
 
 -- the replies to the messages that were served
-replies_served : (s : State) (old left out_old out : Option (List ℕ)) (now : Standing) (ended : Bool) (held : List ℕ) (room : ℕ)
+replies_served : (s : State) (old left out_old out : Option (List ℕ)) (now : Counted) (ended : Bool) (held : List ℕ) (room : ℕ)
     (at : Stands s old left out_old out now ended held room) → replies_to s at.done ≡ at.written
 replies_served s old left out_old out now ended held room at =
     ap (replies_to s) (sym (append_none at.done)) ∙ replies_done s old left out_old out now ended held room at []
-    ∙ ap (λ later. at.written ++ replies_from now.names now.at later) (take_none room [] refl) ∙ append_none at.written
+    ∙ ap (λ later. at.written ++ replies_from now later) (take_none room [] refl) ∙ append_none at.written
 
-read_part : (s : State) (old left left_new out_old out : Option (List ℕ)) (now : Standing) (held : List ℕ) (room less : ℕ)
+read_part : (s : State) (old left left_new out_old out : Option (List ℕ)) (now : Counted) (held : List ℕ) (room less : ℕ)
     → Stands s old left out_old out now false held room → whole_messages held ≡ [] → Keeps left left_new → room ≡ less + 1
     → Stops error.Read s old left_new out_old out
 read_part s old left left_new out_old out now held room less at none kept is =
@@ -316,7 +315,7 @@ read_part s old left left_new out_old out now held room less at none kept is =
       },
     )
 
-pub read_stopped : (fault : ServeErr) (s : State) (old left left_new out_old out out_new : Option (List ℕ)) (now next : Standing) (ended : Bool) (held mid : List ℕ) (room : ℕ)
+pub read_stopped : (fault : ServeErr) (s : State) (old left left_new out_old out out_new : Option (List ℕ)) (now next : Counted) (ended : Bool) (held mid : List ℕ) (room : ℕ)
     → Stands s old left out_old out now ended held room → WantsMore ended held mid now next out out_new → Keeps left left_new → 0 < room → fault ≡ error.Read
     → Stops fault s old left_new out_old out_new
 read_stopped fault s old left left_new out_old out out_new now next ended held mid room at wants kept some is =
@@ -324,18 +323,18 @@ read_stopped fault s old left left_new out_old out out_new now next ended held m
     subst (λ reason. Stops reason s old left_new out_old out_new) (sym is)
     (read_part s old left left_new out_old out_new now held room (room - 1) (subst (λ end. Stands s old left out_old out_new now end held room) wants.end still) wants.none kept (omega (arith, some)))
 
-one_tail : (names : KnownNames) (at : Counted) (piece : Piece) (later : List Piece) (room less : ℕ) → room ≡ less + 1
-    → (tail : List ℕ) × (replies_from names at (take room (piece ∷ later)) ≡ reply_to_piece piece at.state ++ tail)
-one_tail names at piece later zero less is = absurd (omega (arith, is))
-one_tail names at piece later (suc room) less is = (if is_last piece then [] else replies_from names (after_piece names at piece) (take room later), refl)
+one_tail : (at : Counted) (piece : Piece) (later : List Piece) (room less : ℕ) → room ≡ less + 1
+    → (tail : List ℕ) × (replies_from at (take room (piece ∷ later)) ≡ reply_to_piece piece at.state ++ tail)
+one_tail at piece later zero less is = absurd (omega (arith, is))
+one_tail at piece later (suc room) less is = (if is_last piece then [] else replies_from (after_piece at piece) (take room later), refl)
 
 -- a front of the reply to a message, after the replies to those before it
-front_written : (s : State) (old left out_old out out_new : Option (List ℕ)) (now : Standing) (ended : Bool) (held : List ℕ) (room less : ℕ)
+front_written : (s : State) (old left out_old out out_new : Option (List ℕ)) (now : Counted) (ended : Bool) (held : List ℕ) (room less : ℕ)
     (at : Stands s old left out_old out now ended held room) (piece : Piece) (later : List Piece)
-    → AppendsFront out out_new (reply_to_piece piece now.at.state) → room ≡ less + 1 → AppendsFront out_old out_new (replies_to s (at.done ++ piece ∷ later))
+    → AppendsFront out out_new (reply_to_piece piece now.state) → room ≡ less + 1 → AppendsFront out_old out_new (replies_to s (at.done ++ piece ∷ later))
 front_written s old left out_old out out_new now ended held room less at piece later front is =
-    let tail = one_tail now.names now.at piece later room less is in
-    let reply : List ℕ = reply_to_piece piece now.at.state in
+    let tail = one_tail now piece later room less is in
+    let reply : List ℕ = reply_to_piece piece now.state in
     let whole : replies_to s (at.done ++ piece ∷ later) ≡ at.written ++ (reply ++ tail.0) =
     replies_done s old left out_old out now ended held room at (piece ∷ later) ∙ ap (λ bytes. at.written ++ bytes) tail.1 in
     let within : length at.written + front.0 ≤ length (at.written ++ (reply ++ tail.0)) =
@@ -347,7 +346,7 @@ front_written s old left out_old out out_new now ended held room less at piece l
           (Appends-trans out_old out out_new at.written (take front.0 reply) at.appended front.2),
     )
 
-write_read : (s : State) (old left out_old out out_new : Option (List ℕ)) (now : Standing) (ended : Bool) (held : List ℕ) (room less : ℕ)
+write_read : (s : State) (old left out_old out out_new : Option (List ℕ)) (now : Counted) (ended : Bool) (held : List ℕ) (room less : ℕ)
     → Stands s old left out_old out now ended held room → CutsShort ended held now out out_new → room ≡ less + 1
     → RepliesToRead s old left out_old out_new
 write_read s old left out_old out out_new now true held room less at cuts is =
@@ -374,7 +373,7 @@ write_read s old left out_old out out_new now false held room less at cuts is =
           (front_written s old left out_old out out_new now false held room less at cuts.piece first.0 cuts.front is));
     }
 
-write_front : (s : State) (old left out_old out out_new : Option (List ℕ)) (now : Standing) (ended : Bool) (held : List ℕ) (room less : ℕ)
+write_front : (s : State) (old left out_old out out_new : Option (List ℕ)) (now : Counted) (ended : Bool) (held : List ℕ) (room less : ℕ)
     → Stands s old left out_old out now ended held room → CutsShort ended held now out out_new → room ≡ less + 1
     → IfSome old (λ input. AppendsFront out_old out_new (replies s input))
 write_front s None left out_old out out_new now ended held room less at cuts is = tt
@@ -386,13 +385,13 @@ write_front s (Some input) (Some rest) out_old out out_new now ended held room l
     subst (λ pieces. AppendsFront out_old out_new (replies_to s pieces)) (sym whole)
     (front_written s (Some input) (Some rest) out_old out out_new now ended held room less at cuts.piece first.0 cuts.front is)
 
-write_stopped : (s : State) (old left out_old out out_new : Option (List ℕ)) (now : Standing) (ended : Bool) (held : List ℕ) (room less : ℕ)
+write_stopped : (s : State) (old left out_old out out_new : Option (List ℕ)) (now : Counted) (ended : Bool) (held : List ℕ) (room less : ℕ)
     → Stands s old left out_old out now ended held room → CutsShort ended held now out out_new → room ≡ less + 1
     → Stops error.Write s old left out_old out_new
 write_stopped s old left out_old out out_new now ended held room less at cuts is =
     (write_read s old left out_old out out_new now ended held room less at cuts is, write_front s old left out_old out out_new now ended held room less at cuts is)
 
-first_written : (s : State) (old left out_old out : Option (List ℕ)) (now : Standing) (ended : Bool) (held : List ℕ) (room : ℕ)
+first_written : (s : State) (old left out_old out : Option (List ℕ)) (now : Counted) (ended : Bool) (held : List ℕ) (room : ℕ)
     → Stands s old left out_old out now ended held room → IfSome old (λ input. RepliesToFirst s input out_old out)
 first_written s None left out_old out now ended held room at = tt
 first_written s (Some input) None out_old out now ended held room at = absurd at.consumed
@@ -406,14 +405,14 @@ first_written s (Some input) (Some rest) out_old out now ended held room at =
           (sym (ap (replies_to s) served ∙ replies_served s (Some input) (Some rest) out_old out now ended held room at)) at.appended;
     }
 
-memory_stopped : (s : State) (old left out_old out out_new : Option (List ℕ)) (now : Standing) (ended : Bool) (held : List ℕ) (room : ℕ)
+memory_stopped : (s : State) (old left out_old out out_new : Option (List ℕ)) (now : Counted) (ended : Bool) (held : List ℕ) (room : ℕ)
     → Stands s old left out_old out now ended held room → Appends out out_new [] → Stops error.Memory s old left out_old out_new
 memory_stopped s old left out_old out out_new now ended held room at still = (
   record { taken = at.taken; consumed = at.consumed },
   first_written s old left out_old out_new now ended held room (stands_still s old left out_old out out_new now ended held room at still),
 )
 
-pub next_stopped : (fault : ServeErr) (s : State) (old left out_old out out_new : Option (List ℕ)) (now : Standing) (ended : Bool) (held : List ℕ) (room : ℕ)
+pub next_stopped : (fault : ServeErr) (s : State) (old left out_old out out_new : Option (List ℕ)) (now : Counted) (ended : Bool) (held : List ℕ) (room : ℕ)
     → Stands s old left out_old out now ended held room → Breaks fault ended held now out out_new → 0 < room → Stops fault s old left out_old out_new
 next_stopped error.Read s old left out_old out out_new now ended held room at breaks some = absurd breaks
 next_stopped error.Write s old left out_old out out_new now ended held room at breaks some =

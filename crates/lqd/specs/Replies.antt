@@ -2,7 +2,6 @@
 use Rattle.std.specs.Prelude.{ℕ, ◌+◌, nat_le, Bool, true, false, not, ◌||◌, Option, Some, None, Result, Ok, Err, List, [], ◌∷◌, ◌++◌, length, take, if◌then◌else◌}
 use Rattle.std.specs.List.{list_any}
 use Rattle.lq_events.specs.declared.update.Update.{Update}
-use Rattle.lq_commands.specs.Names.{KnownNames, names_of}
 use Rattle.lq_commands.specs.Orders.{order_of}
 use Rattle.lq_commands.specs.declared.order.Order.{Order}
 use Rattle.lq_live.specs.State.{State, Counted}
@@ -46,12 +45,12 @@ after_order at (Some order) =
     record { state = step at.state (update_of at.count order); count = at.count + 1 }
 
 -- the state after a message, and how many updates led to it
-abbrev pub after_piece : KnownNames → Counted → Piece → Counted
-after_piece names at (Query text) = at
-after_piece names at (Command text) = after_order at (order_of names text)
-after_piece names at (TooLong front) = at
-after_piece names at Empty = at
-after_piece names at More = at
+abbrev pub after_piece : Counted → Piece → Counted
+after_piece at (Query text) = at
+after_piece at (Command text) = after_order at (order_of at.state.base text)
+after_piece at (TooLong front) = at
+after_piece at Empty = at
+after_piece at More = at
 
 -- whether a message is the last one of its connection: a query that doesn't keep it, or one that is
 -- too long
@@ -65,11 +64,11 @@ is_last More = true
 -- ---- all messages
 
 -- each message is answered at the state after the messages before it, up to the last one
-abbrev pub replies_from : KnownNames → Counted → List Piece → List ℕ
-replies_from names at [] = []
-replies_from names at (piece ∷ later) =
+abbrev pub replies_from : Counted → List Piece → List ℕ
+replies_from at [] = []
+replies_from at (piece ∷ later) =
     reply_to_piece piece at.state
-    ++ (if is_last piece then [] else replies_from names (after_piece names at piece) later)
+    ++ (if is_last piece then [] else replies_from (after_piece at piece) later)
 
 abbrev pub opening : State → Counted
 opening s = record { state = s; count = 0 }
@@ -80,7 +79,7 @@ most_messages = 10000
 
 -- the bytes that are written for messages, of which the first 10,000 are served
 unfoldable pub replies_to : State → List Piece → List ℕ
-replies_to s pieces = replies_from (names_of s.base) (opening s) (take most_messages pieces)
+replies_to s pieces = replies_from (opening s) (take most_messages pieces)
 
 -- the bytes that are written for a whole input
 abbrev pub replies : State → List ℕ → List ℕ

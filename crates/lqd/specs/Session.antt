@@ -2,29 +2,14 @@
 use Rattle.std.specs.Prelude.{◌≡◌, ℕ, ◌+◌, ◌<◌, ◌≤◌, Bool, true, false, IsTrue, IfSome, Option, List, [], ◌∷◌, ◌++◌, length}
 use Rattle.std.specs.Io.KnownBytes.{Appends, Consumes, IsAtEnd}
 use Rattle.lq_outside.specs.Sinks.{AppendsFront}
-use Rattle.lq_commands.specs.Names.{KnownNames, names_of}
 use Rattle.lq_live.specs.State.{State, Counted}
 use Rattle.lq_request.specs.Messages.{message_limit, Piece, messages, whole_messages, IsCutOff}
 use Rattle.lqd.specs.Reading.{ReadsPart, ReadsSome, RepliesToFirst, RepliesToPart, RepliesToRead}
-use Rattle.lqd.specs.Replies.{after_piece, is_last, opening, replies, reply_to_piece}
+use Rattle.lqd.specs.Replies.{after_piece, is_last, replies, reply_to_piece}
 use Rattle.lqd.specs.declared.session.Next.{Next}
 use Rattle.lqd.specs.declared.session.Next.TheVariants as next
 use Rattle.lqd.specs.declared.session.ServeErr.{ServeErr}
 use Rattle.lqd.specs.declared.session.ServeErr.TheVariants as error
-
--- The names by which commands speak of the objects, and the state with the number of updates that
--- led to it.
-pub record Standing : Type 0 where
-  pub names : KnownNames
-  pub at : Counted
-
--- before the first message
-abbrev pub first_standing : State → Standing
-first_standing s = record { names = names_of s.base; at = opening s }
-
--- after a message
-abbrev pub standing_after : Standing → Piece → Standing
-standing_after old piece = record { names = old.names; at = after_piece old.names old.at piece }
 
 -- ---- reading
 
@@ -50,21 +35,21 @@ pub record ComesFirst (ended : Bool) (held : List ℕ) (piece : Piece) : Type 0 
       → (later : List Piece) × (whole_messages (held ++ rest) ≡ piece ∷ later)
 
 -- a message was cut off and served, and the connection goes on
-pub record Serves (ended : Bool) (held left : List ℕ) (old new : Standing)
+pub record Serves (ended : Bool) (held left : List ℕ) (old new : Counted)
     (out_old out : Option (List ℕ)) : Type 0 where
   pub piece : Piece
   pub cut : IsCutOff ended held piece left
   pub kept : is_last piece ≡ false
-  pub state : new ≡ standing_after old piece
-  pub written : Appends out_old out (reply_to_piece piece old.at.state)
+  pub state : new ≡ after_piece old piece
+  pub written : Appends out_old out (reply_to_piece piece old.state)
 
 -- the last message of the connection was served
-pub record ServesLast (ended : Bool) (held : List ℕ) (old : Standing)
+pub record ServesLast (ended : Bool) (held : List ℕ) (old : Counted)
     (out_old out : Option (List ℕ)) : Type 0 where
   pub piece : Piece
   pub first : ComesFirst ended held piece
   pub last : is_last piece ≡ true
-  pub written : Appends out_old out (reply_to_piece piece old.at.state)
+  pub written : Appends out_old out (reply_to_piece piece old.state)
 
 -- nothing was written, and no message is left at the end of the input
 pub record FindsNone (ended : Bool) (held : List ℕ) (out_old out : Option (List ℕ)) : Type 0 where
@@ -73,7 +58,7 @@ pub record FindsNone (ended : Bool) (held : List ℕ) (out_old out : Option (Lis
   pub written : Appends out_old out []
 
 -- nothing was done, and more bytes may come
-pub record WantsMore (ended : Bool) (held left : List ℕ) (old new : Standing)
+pub record WantsMore (ended : Bool) (held left : List ℕ) (old new : Counted)
     (out_old out : Option (List ℕ)) : Type 0 where
   pub end : ended ≡ false
   pub none : whole_messages held ≡ []
@@ -82,7 +67,7 @@ pub record WantsMore (ended : Bool) (held left : List ℕ) (old new : Standing)
   pub state : new ≡ old
   pub written : Appends out_old out []
 
-abbrev pub Does : Next → Bool → List ℕ → List ℕ → Standing → Standing → Option (List ℕ)
+abbrev pub Does : Next → Bool → List ℕ → List ℕ → Counted → Counted → Option (List ℕ)
     → Option (List ℕ) → Type 0
 Does next.On ended held left old new out_old out = Serves ended held left old new out_old out
 Does next.Last ended held left old new out_old out = ServesLast ended held old out_old out
@@ -96,14 +81,14 @@ BreaksReply error.Write reply out_old out = AppendsFront out_old out reply
 BreaksReply error.Memory reply out_old out = Appends out_old out []
 
 -- a part of the reply to a message was written
-pub record CutsShort (ended : Bool) (held : List ℕ) (old : Standing)
+pub record CutsShort (ended : Bool) (held : List ℕ) (old : Counted)
     (out_old out : Option (List ℕ)) : Type 0 where
   pub piece : Piece
   pub first : ComesFirst ended held piece
-  pub front : AppendsFront out_old out (reply_to_piece piece old.at.state)
+  pub front : AppendsFront out_old out (reply_to_piece piece old.state)
 
 -- what was written where a message wasn't served
-abbrev pub Breaks : ServeErr → Bool → List ℕ → Standing → Option (List ℕ) → Option (List ℕ) → Type 0
+abbrev pub Breaks : ServeErr → Bool → List ℕ → Counted → Option (List ℕ) → Option (List ℕ) → Type 0
 Breaks error.Read ended held old out_old out = ⊥
 Breaks error.Write ended held old out_old out = CutsShort ended held old out_old out
 Breaks error.Memory ended held old out_old out = Appends out_old out []

@@ -3,15 +3,14 @@ ghost use Rattle.std.specs.Io.KnownBytes.{Appends, Keeps};
 ghost use Rattle.lq_outside.specs.Faults.{HasCause, Rose};
 ghost use Rattle.lq_outside.specs.Sinks.{AppendsFront};
 ghost use Rattle.lq_records.specs.Sound.{IsSound};
-ghost use Rattle.lq_commands.specs.Names.{names_of};
 ghost use Rattle.lq_live.specs.State.{opened};
 ghost use Rattle.lq_request.specs.Messages.{Command, Query, message_limit};
 ghost use Rattle.lq_request.specs.Request.{asked};
 ghost use Rattle.lqd.specs.Reading.{ReadsAll, ReadsNoFurther};
-ghost use Rattle.lqd.specs.Replies.{keeps, opening, replies, reply_to, update_of};
-ghost use Rattle.lqd.specs.Session.{Breaks, BreaksReply, Does, Fills, Stops, standing_after, first_standing};
+ghost use Rattle.lqd.specs.Replies.{after_piece, keeps, opening, replies, reply_to, update_of};
+ghost use Rattle.lqd.specs.Session.{Breaks, BreaksReply, Does, Fills, Stops};
 
-use lq_commands::{CommandErr, ObjectNames, Order, read_command};
+use lq_commands::{CommandErr, Order, read_command};
 use lq_events::Update;
 use lq_live::Live;
 use lq_log::LogBook;
@@ -89,14 +88,14 @@ fn serve_all<S: Source, K: Sink>(
     input: &mut S,
     output: &mut K,
 ) -> Result<(), ServeErr>
-    requires opened { session.old ≡ first_standing session.old.at.state }
+    requires opened { session.old ≡ opening session.old.state }
     requires none { cut.old ≡ [] }
     requires size { length piece.old ≡ 65536 }
     ensures written { OnOk result (IfSome (S.left input.old) (λ all.
-        Appends (K.held output.old) (K.held output.new) (replies session.old.at.state all))) }
+        Appends (K.held output.old) (K.held output.new) (replies session.old.state all))) }
     ensures read { OnOk result (ReadsAll (S.left input.old) (S.left input.new)) }
     ensures no_further { OnOk result (ReadsNoFurther (S.left input.old) (S.left input.new)) }
-    ensures stopped { IfErr result (λ error. Stops error session.old.at.state
+    ensures stopped { IfErr result (λ error. Stops error session.old.state
         (S.left input.old) (S.left input.new) (K.held output.old) (K.held output.new)) }
     ensures input_later { S.faults input.old ≤ S.faults input.new }
     ensures output_later { K.faults output.old ≤ K.faults output.new }
@@ -125,7 +124,7 @@ fn serve_all<S: Source, K: Sink>(
 /// The session that a base opens with, no bytes yet, and room for what one read gives.
 fn start(alloc: Global, base: Base) -> Result<(Session, Cut, Vec<u8>), Memory>
     requires { IsSound base }
-    ensures session { IfOk result (λ parts. parts.0 ≡ first_standing (opened base)) }
+    ensures session { IfOk result (λ parts. parts.0 ≡ opening (opened base)) }
     ensures cut { IfOk result (λ parts. parts.1 ≡ []) }
     ensures piece { IfOk result (λ parts. vec_len parts.2 ≡ 65536) }
 {
@@ -184,31 +183,29 @@ struct Answered {
     keep: bool,
 }
 
-/// The state of the objects, and the names by which commands speak of them.
+/// The state of the objects, which the messages of a connection speak of.
 #[derive(Drop)]
 struct Session {
     alloc: Global,
     live: Live,
-    names: ObjectNames,
 }
 
 impl Model for Session {
-    ghost use Rattle.lqd.specs.Session.{Standing};
+    ghost use Rattle.lq_live.specs.State.{Counted};
 
-    ghost Value = { Standing };
+    ghost Value = { Counted };
 
-    ghost view = { λ session. record { names = session.names; at = session.live } };
+    ghost view = { λ session. session.live };
 }
 
 impl Session {
     /// The session that a base opens with.
     fn open(alloc: Global, base: Base) -> Result<Self, Memory>
         requires { IsSound base }
-        ensures { IfOk result (λ session. session ≡ first_standing (opened base)) }
+        ensures { IfOk result (λ session. session ≡ opening (opened base)) }
     {
-        let names = ObjectNames::of(alloc, &base)?;
         let live = Live::open(alloc, base, LogBook::empty(alloc))?;
-        Ok(Session { alloc, live, names })
+        Ok(Session { alloc, live })
     }
 
     /// Serves the message that stands first in what is held.
@@ -246,9 +243,9 @@ impl Session {
     fn answer<K: Sink>(&self, text: &[u8], output: &mut K) -> Result<bool, ServeErr>
         ensures keep { IfOk result (λ keep. keep ≡ keeps (asked text.now)) }
         ensures ok { OnOk result (Appends (K.held output.old) (K.held output.new)
-            (reply_to (asked text.now) self.now.at.state)) }
+            (reply_to (asked text.now) self.now.state)) }
         ensures broken { IfErr result (λ error.
-            BreaksReply error (reply_to (asked text.now) self.now.at.state)
+            BreaksReply error (reply_to (asked text.now) self.now.state)
             (K.held output.old) (K.held output.new)) }
         ensures later { K.faults output.old ≤ K.faults output.new }
         ensures cause { result ≡ Err ServeErr.Write
@@ -264,7 +261,7 @@ impl Session {
     /// The reply to a query. A refusal writes nothing.
     fn reply(&self, text: &[u8]) -> Result<Answered, Memory>
         ensures bytes { IfOk result
-            (λ answered. answered.bytes ≡ reply_to (asked text.now) self.now.at.state) }
+            (λ answered. answered.bytes ≡ reply_to (asked text.now) self.now.state) }
         ensures keep { IfOk result (λ answered. answered.keep ≡ keeps (asked text.now)) }
     {
         match read_request(self.alloc, text, self.live.base()) {
@@ -282,9 +279,9 @@ impl Session {
 
     /// Takes a command's step of the state. One without a time is skipped.
     fn command(&mut self, text: &[u8]) -> Result<(), Memory>
-        ensures { OnOk result (self.new ≡ standing_after self.old (Command text.now)) }
+        ensures { OnOk result (self.new ≡ after_piece self.old (Command text.now)) }
     {
-        match read_command(self.alloc, &self.names, text) {
+        match read_command(self.alloc, self.live.base(), text) {
             Ok(order) => self.live.apply(&update_of(self.live.count(), order)),
             Err(CommandErr::NoTime) => Ok(()),
             Err(CommandErr::Memory) => Err(AllocError),

@@ -7,7 +7,7 @@ abbrev pub invariant-messages : goal.invariant-messages
 invariant-messages g l = record {
   input_later : g.S.Source.faults l.initial.input ≤ g.S.Source.faults l.input;
   output_later : g.K.Sink.faults l.initial.output ≤ g.K.Sink.faults l.output;
-  stands : Stands l.initial.session.at.state (g.S.Source.left l.initial.input) (g.S.Source.left l.input) (g.K.Sink.held l.initial.output) (g.K.Sink.held l.output) l.session l.ended l.cut l.left;
+  stands : Stands l.initial.session.state (g.S.Source.left l.initial.input) (g.S.Source.left l.input) (g.K.Sink.held l.initial.output) (g.K.Sink.held l.output) l.session l.ended l.cut l.left;
   small : length l.cut ≤ 65537;
   no_further : ReadsNoFurther (g.S.Source.left l.initial.input) (g.S.Source.left l.input);
   size : length l.piece ≡ 65536;
