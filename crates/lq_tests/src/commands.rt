@@ -1,6 +1,6 @@
 //! What a command line says: its second, its text and what it does.
 
-use crate::fixture::{base_of, joined};
+use crate::fixture::base_of;
 use lq_commands::{CommandErr, read_command};
 use lq_events::Act;
 use lq_records::Base;
@@ -180,7 +180,7 @@ fn assert_said<R: Abort + AllocGlobal>(
     (front, text): (&str, &str),
     said: Said<'_>,
 ) -> Result<(), Fail> {
-    let line = joined(rt.alloc(), &[front.as_bytes(), text.as_bytes()])?;
+    let line = [front.as_bytes(), text.as_bytes()].concat(rt.alloc())?;
     assert!(rt;
         is_order(rt.alloc(), base, &line, (1, text, said)),
         "at {text:?}"

@@ -155,15 +155,6 @@ pub(crate) fn assert_same(rt: &impl Abort, found: &str, expected: &str, case: &i
     assert_eq!(rt; found, expected, "at {case:?}");
 }
 
-/// Parts as one.
-pub(crate) fn joined(alloc: Global, parts: &[&[u8]]) -> Result<Vec<u8>, AllocError> {
-    let mut whole = Vec::new(alloc);
-    for part in parts {
-        whole.extend_from_slice(*part)?;
-    }
-    Ok(whole)
-}
-
 /// Adds texts to a text.
 pub(crate) fn push_all(text: &mut String, parts: &[&str]) -> Result<(), AllocError> {
     for part in parts {

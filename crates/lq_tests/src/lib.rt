@@ -1,5 +1,5 @@
-//! The tests of the libraries, over their public calls and text: object files, external commands,
-//! queries and bytes.
+//! The tests of the libraries together, on the objects of a small site: object files, external
+//! commands and queries.
 #![tactic(auto)]
 
 #[cfg(test)]
@@ -7,24 +7,12 @@ mod columns;
 #[cfg(test)]
 mod commands;
 #[cfg(test)]
-mod faults;
-#[cfg(test)]
 mod fixture;
 #[cfg(test)]
 mod live;
 #[cfg(test)]
-mod log;
-#[cfg(test)]
 mod objects;
-#[cfg(test)]
-mod outside;
-#[cfg(test)]
-mod records;
-#[cfg(test)]
-mod request;
 #[cfg(test)]
 mod schema;
 #[cfg(test)]
 mod tables;
-#[cfg(test)]
-mod text;

@@ -1,7 +1,7 @@
 //! What each command does to hosts, services, downtimes, comments and switches, and how many lines
 //! it writes.
 
-use crate::fixture::{SITE, Site, Step, assert_steps, joined};
+use crate::fixture::{SITE, Site, Step, assert_steps};
 use lq_events::Act;
 use lq_records::{HostId, ServiceId, Text};
 use std::alloc::{AllocError, Global};
@@ -617,7 +617,7 @@ const ALL: &str = "GET hosts\n\nGET services\n\nGET downtimes\n\nGET comments";
 
 /// A site whose commands know more objects than its state.
 fn behind(alloc: Global) -> Result<Box<Site>, Fail> {
-    let names = joined(alloc, &[SITE, LATE])?;
+    let names = [SITE, LATE].concat(alloc)?;
     Site::open(alloc, &names, SITE)
 }
 

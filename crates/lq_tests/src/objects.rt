@@ -1,6 +1,6 @@
 //! What object files say, asked by queries.
 
-use crate::fixture::{asked, assert_same, joined};
+use crate::fixture::{asked, assert_same};
 use std::process::Abort;
 use std::test::Fail;
 
@@ -35,7 +35,7 @@ fn assert_line<R: Abort + AllocGlobal>(
     (front, back, queries): Around<'_>,
     (line, expected): (&[u8], &str),
 ) -> Result<(), Fail> {
-    let objects = joined(rt.alloc(), &[front, line, back])?;
+    let objects = [front, line, back].concat(rt.alloc())?;
     assert_asked(rt, &objects, queries, expected)
 }
 
@@ -355,7 +355,7 @@ fn assert_replaced<R: Abort + AllocGlobal>(rt: &R, value: &[u8], text: &str) -> 
         value,
         b"\n}\n",
     ];
-    let objects = joined(rt.alloc(), parts)?;
+    let objects = parts.concat(rt.alloc())?;
     let expected = format!(in rt.alloc(); "a{text};{text};{text};g\n")?;
     assert_asked(rt, &objects, REPLACED_TEXTS, expected.as_str())
 }

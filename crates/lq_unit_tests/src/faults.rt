@@ -1,6 +1,5 @@
 //! The faults of object files, each with its line, and the limits.
 
-use crate::fixture::joined;
 use lq_objects::{ObjectsErr, read_objects};
 use lq_records::Rules;
 use std::alloc::{AllocError, Global};
@@ -32,7 +31,7 @@ fn assert_faults<R: Abort + AllocGlobal>(
     faults: &[Fault<'_>],
 ) -> Result<(), Fail> {
     for (file, line, what) in faults {
-        let whole = joined(rt.alloc(), &[front, *file, back])?;
+        let whole = [front, *file, back].concat(rt.alloc())?;
         assert_fault(rt, (&whole, line.wrapping_add(lines), *what));
     }
     Ok(())
@@ -184,7 +183,7 @@ fn assert_parts<R: Abort + AllocGlobal>(
     line: u64,
     what: &str,
 ) -> Result<(), Fail> {
-    let file = joined(rt.alloc(), parts)?;
+    let file = parts.concat(rt.alloc())?;
     assert_fault(rt, (&file, line, what));
     Ok(())
 }

@@ -1,6 +1,5 @@
 //! Messages cut out of a connection's bytes, and what a query asks or why it is refused.
 
-use crate::fixture::assert_same;
 use lq_objects::read_objects;
 use lq_records::Rules;
 use lq_request::{Cut, Cutting, ReadErr, Request, read_request, reply_style};
@@ -326,7 +325,7 @@ fn read(alloc: Global, message: &[u8]) -> Result<String, Fail> {
 /// Reads a message, and compares what it asks.
 fn assert_read<R: Abort + AllocGlobal>(rt: &R, message: &[u8], expected: &str) -> Result<(), Fail> {
     let shown = read(rt.alloc(), message)?;
-    assert_same(rt, shown.as_str(), expected, &message);
+    assert_eq!(rt; shown.as_str(), expected, "at {message:?}");
     assert!(rt;
         reply_style(message).keep == expected.contains("+keep"),
         "at {message:?}"

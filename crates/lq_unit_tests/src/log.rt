@@ -4,7 +4,6 @@ ghost use Rattle.std.specs.Prelude.{◌≡◌, ◌<◌, IfOk};
 ghost use Rattle.lq_log.specs.Entries.{IsOfLine};
 ghost use Rattle.lq_log.specs.declared.book.TheConstants.{TIME_LIMIT};
 
-use crate::fixture::{assert_same, push_all};
 use lq_events::{Kind, LogEntry};
 use lq_log::{DowntimeChange, Form, LogBook, make_line, read_line};
 use lq_records::Text;
@@ -55,7 +54,7 @@ fn shown(alloc: Global, entry: &LogEntry) -> Result<String, AllocError> {
         "|",
         entry.comment.as_str(),
     ];
-    push_all(&mut text, &fields)?;
+    text.push_str(fields.concat(alloc)?.as_str())?;
     push_transition(alloc, &mut text, &entry.kind)?;
     Ok(text)
 }
@@ -78,7 +77,7 @@ fn shown_line(alloc: Global, line: &str) -> Result<String, AllocError> {
 /// Reads a line, and compares what it says.
 fn assert_line<R: Abort + AllocGlobal>(rt: &R, line: &str, expected: &str) -> Result<(), Fail> {
     let said = shown_line(rt.alloc(), line)?;
-    assert_same(rt, said.as_str(), expected, &line);
+    assert_eq!(rt; said.as_str(), expected, "at {line:?}");
     Ok(())
 }
 

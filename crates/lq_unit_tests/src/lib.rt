@@ -1,0 +1,16 @@
+//! The tests of single calls of the libraries that read and write: bytes, streams and files, texts
+//! and lists, lines of a log, the faults of object files, messages.
+#![tactic(auto)]
+
+#[cfg(test)]
+mod faults;
+#[cfg(test)]
+mod log;
+#[cfg(test)]
+mod outside;
+#[cfg(test)]
+mod records;
+#[cfg(test)]
+mod request;
+#[cfg(test)]
+mod text;
