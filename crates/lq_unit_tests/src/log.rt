@@ -318,11 +318,7 @@ const ALERTS: &[(&str, i64, (&str, &str))] = &[
 ];
 
 /// A downtime of web1 or of a service on it.
-fn downtime(
-    alloc: Global,
-    service: &str,
-    change: DowntimeChange,
-) -> Result<Form, AllocError> {
+fn downtime(alloc: Global, service: &str, change: DowntimeChange) -> Result<Form, AllocError> {
     let host = Text::new(alloc, "web1")?;
     let service = Text::new(alloc, service)?;
     Ok(Form::Downtime {
