@@ -1,0 +1,179 @@
+//! The rows and the cells of a state, and what queries are answered.
+
+use crate::scarce::{Call, assert_late};
+use crate::site::{COUNT, is_answer, large, live_of, request_of};
+use lq_columns::{host_value, names_of, service_value};
+use lq_live::Live;
+use lq_records::{HostGroupId, HostId, ServiceId, Text};
+use lq_request::Request;
+use lq_schema::{Col, Table, Val, column};
+use lq_tables::{Row, cell, rows};
+use std::alloc::{AllocError, Global};
+use std::process::Abort;
+use std::test::Fail;
+
+/// What is asked of a large site.
+#[derive(Clone, Copy)]
+enum Asked {
+    /// The rows of a table, and how many there are.
+    Rows(Table, usize),
+    /// The cell of the group with the names of all hosts.
+    Members(Col),
+    /// The value of the first host with the names of all services.
+    Services(Col),
+    /// The value of the last service with the names of all contacts.
+    Contacts(Col),
+    /// The names of the members of the group.
+    Names,
+}
+
+/// A large site, and what is asked of it.
+#[derive(Clone, Copy)]
+struct Query<'a> {
+    live: &'a Live,
+    asked: Asked,
+}
+
+impl Call for Query<'_> {
+    fn make(&mut self, alloc: Global) -> Result<bool, AllocError> {
+        let live = self.live;
+        match self.asked {
+            Asked::Rows(table, count) => Ok(rows(alloc, live, table)?.len() == count),
+            Asked::Members(column) => has_members(alloc, live, column),
+            Asked::Services(column) => {
+                Ok(are_names_in(host_value(alloc, live, column, HostId(0))?, "s999"))
+            },
+            Asked::Contacts(column) => {
+                Ok(are_names_in(
+                    service_value(alloc, live, column, ServiceId(1_000))?,
+                    "c999",
+                ))
+            },
+            Asked::Names => has_names(alloc, live),
+        }
+    }
+}
+
+/// Whether there are as many texts as hosts or contacts, and the last is that.
+fn are_names(names: &[Text], last: &str) -> bool {
+    names.len() == COUNT && names[999].as_str() == last
+}
+
+fn are_names_in(value: Val<'_>, last: &str) -> bool {
+    match value {
+        Val::List(names) => are_names(names.as_slice(), last),
+        _ => false,
+    }
+}
+
+/// Whether the cell of the group has the names of all hosts.
+fn has_members(alloc: Global, live: &Live, column: Col) -> Result<bool, AllocError> {
+    let row = Row::HostGroup(HostGroupId(0));
+    let members = cell(alloc, live, Table::HostGroups, column, &row)?;
+    Ok(are_names_in(members, "h999"))
+}
+
+/// Whether the members of the group have the names of all hosts.
+fn has_names(alloc: Global, live: &Live) -> Result<bool, AllocError> {
+    let base = live.base();
+    let Some(group) = base.host_groups.as_slice().first() else {
+        return Ok(false);
+    };
+    let names = names_of(alloc, base, group.members.as_slice())?;
+    Ok(are_names(names.as_slice(), "h999"))
+}
+
+/// Tables of a large site, and how many rows they have.
+const TABLES: &[(&str, Table, usize)] = &[
+    ("rows of hosts", Table::Hosts, COUNT),
+    ("rows of hosts by group", Table::HostsByGroup, COUNT),
+    (
+        "rows of services by host group",
+        Table::ServicesByHostGroup,
+        COUNT + 1,
+    ),
+];
+
+fn assert_rows<R: Abort + AllocGlobal>(rt: &R, live: &Live) -> Result<(), Fail> {
+    for (name, table, count) in TABLES {
+        let asked = Asked::Rows(*table, *count);
+        assert_late(rt, *name, 2, &mut Query { live, asked })?;
+    }
+    Ok(())
+}
+
+#[test]
+fn rows_want_memory_for_the_last_ones(rt: HostRuntime) -> Result<(), Fail> {
+    let objects = large(rt.alloc())?;
+    let live = live_of(rt.alloc(), objects.as_bytes())?;
+    assert_rows(&rt, &live)
+}
+
+fn column_of(table: Table, name: &str) -> Result<Col, Fail> {
+    Ok(column(table, name).ok_or("no column")?)
+}
+
+fn assert_cells<R: Abort + AllocGlobal>(rt: &R, live: &Live) -> Result<(), Fail> {
+    let members = column_of(Table::HostGroups, "members")?;
+    let services = column_of(Table::Hosts, "services")?;
+    let contacts = column_of(Table::Services, "contacts")?;
+    for (name, asked) in [
+        ("cell", Asked::Members(members)),
+        ("host_value", Asked::Services(services)),
+        ("service_value", Asked::Contacts(contacts)),
+        ("names_of", Asked::Names),
+    ] {
+        assert_late(rt, name, 1, &mut Query { live, asked })?;
+    }
+    Ok(())
+}
+
+#[test]
+fn cells_want_memory_for_their_last_items(rt: HostRuntime) -> Result<(), Fail> {
+    let objects = large(rt.alloc())?;
+    let live = live_of(rt.alloc(), objects.as_bytes())?;
+    assert_cells(&rt, &live)
+}
+
+/// A line for each host, which was never checked.
+fn lines_of_hosts(alloc: Global) -> Result<String, AllocError> {
+    let mut lines = String::new(alloc);
+    for number in 0..COUNT {
+        let line = format!(in alloc; "h{number};0;0;;\n")?;
+        lines.push_str(line.as_str())?;
+    }
+    Ok(lines)
+}
+
+/// A request is answered by a text.
+#[derive(Clone, Copy)]
+struct Answered<'a> {
+    live: &'a Live,
+    request: &'a Request,
+    text: &'a str,
+}
+
+impl Call for Answered<'_> {
+    fn make(&mut self, alloc: Global) -> Result<bool, AllocError> {
+        is_answer(alloc, self.live, self.request, self.text)
+    }
+}
+
+fn assert_answer<R: Abort + AllocGlobal>(rt: &R, live: &Live) -> Result<(), Fail> {
+    let query = b"GET hosts\nColumns: name state last_check plugin_output comments";
+    let request = request_of(rt.alloc(), live, query)?.ok_or("the query is refused")?;
+    let lines = lines_of_hosts(rt.alloc())?;
+    let mut call = Answered {
+        live,
+        request: &request,
+        text: lines.as_str(),
+    };
+    assert_late(rt, "answer", 6, &mut call)
+}
+
+#[test]
+fn an_answer_wants_memory_for_its_last_lines(rt: HostRuntime) -> Result<(), Fail> {
+    let objects = large(rt.alloc())?;
+    let live = live_of(rt.alloc(), objects.as_bytes())?;
+    assert_answer(&rt, &live)
+}
