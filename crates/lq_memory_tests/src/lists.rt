@@ -3,7 +3,7 @@
 use crate::scarce::{Call, assert_late, is_late, successes};
 use lq_names::{Name, NameIndex};
 use lq_outside::{Files, LoadErr, MemFiles, MemSink, MemSource, StdFiles, SteadySource};
-use lq_records::{Items, Text, clean_text};
+use lq_records::{Contact, Items, NamedItems, Text, clean_text};
 use std::alloc::{AllocError, Global};
 use std::process::Abort;
 use std::test::Fail;
@@ -132,6 +132,38 @@ fn names_that_find_no_memory_stay_as_they_were(rt: HostRuntime) -> Result<(), Fa
     assert!(rt; index.make(rt.alloc())? && index.len() == count.saturating_add(1));
     assert!(rt; index.find(&numbered(rt.alloc(), count)?).is_some());
     Ok(())
+}
+
+/// A contact whose name is a number.
+fn contact(alloc: Global, number: usize) -> Result<Contact, AllocError> {
+    Ok(Contact {
+        contact_name: Text::from_string(number.to_string(alloc)?)?,
+        alias: Text::empty(),
+        email: Text::empty(),
+        pager: Text::empty(),
+        host_notification_period: Text::empty(),
+        service_notification_period: Text::empty(),
+    })
+}
+
+/// A thousand contacts are found by their names.
+#[derive(Clone, Copy)]
+struct Named;
+
+impl Call for Named {
+    fn make(&mut self, alloc: Global) -> Result<bool, AllocError> {
+        let mut contacts = Vec::new(alloc);
+        for number in 0..1_000usize {
+            contacts.push(contact(alloc, number)?)?;
+        }
+        let contacts = NamedItems::from_vec(alloc, contacts)?;
+        Ok(contacts.find("999").is_some_and(|id| id.0 == 999) && contacts.find("x").is_none())
+    }
+}
+
+#[test]
+fn lists_by_name_want_memory_for_their_order(rt: HostRuntime) -> Result<(), Fail> {
+    assert_late(&rt, "NamedItems::from_vec", 24, &mut Named)
 }
 
 /// Each form in memory is made of what it is handed.

@@ -75,20 +75,20 @@ fn a_line_wants_memory_for_its_texts(rt: HostRuntime) -> Result<(), Fail> {
     assert_line(&rt, line.as_str(), output)
 }
 
-/// A book, and an entry that is added to it again and again.
+/// A book, and the form of an entry that is made and added to it again and again.
 #[derive(Drop)]
 struct Added {
     book: LogBook,
-    entry: LogEntry,
+    form: Form,
 }
 
 impl Added {
-    /// A book without entries, and the line of a command at the second 5.
+    /// A book without entries, and the line of a command.
     fn new(alloc: Global) -> Result<Box<Self>, AllocError> {
         let text = Text::new(alloc, "ENABLE_NOTIFICATIONS")?;
-        let entry = make_line(alloc, 5, &Form::External { text })?;
+        let form = Form::External { text };
         let book = LogBook::empty(alloc);
-        Ok(Box::new(alloc, Added { book, entry })?)
+        Ok(Box::new(alloc, Added { book, form })?)
     }
 
     fn is_long(&self, count: usize) -> bool {
@@ -96,9 +96,10 @@ impl Added {
     }
 }
 
+/// The line of the second 5 is added.
 impl Call for Added {
-    fn make(&mut self, _alloc: Global) -> Result<bool, AllocError> {
-        let entry = self.entry.clone()?;
+    fn make(&mut self, alloc: Global) -> Result<bool, AllocError> {
+        let entry = make_line(alloc, 5, &self.form)?;
         if self.book.last_time() > entry.time || entry.time >= TIME_LIMIT {
             return Ok(false);
         }

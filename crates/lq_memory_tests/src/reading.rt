@@ -2,7 +2,7 @@
 
 use crate::scarce::{Call, assert_late};
 use crate::site::{COUNT, SMALL, base_of, large};
-use lq_commands::{CommandErr, ObjectNames, read_command};
+use lq_commands::{CommandErr, read_command};
 use lq_events::Act;
 use lq_records::Base;
 use lq_request::{Cut, ReadErr, read_request};
@@ -16,10 +16,8 @@ use std::test::Fail;
 enum Read<'a> {
     /// The object file of a large site.
     Large(&'a str),
-    /// The names of a large site.
-    Names(&'a Base),
     /// A line of a comment, and its text.
-    Comment(&'a ObjectNames, &'a str, &'a str),
+    Comment(&'a Base, &'a str, &'a str),
     /// A cut, into which a whole message goes.
     Cut,
     /// A message that asks the column `state` of hosts many times.
@@ -32,8 +30,7 @@ impl Call for Read<'_> {
     fn make(&mut self, alloc: Global) -> Result<bool, AllocError> {
         match *self {
             Read::Large(objects) => is_read(alloc, objects.as_bytes()),
-            Read::Names(base) => is_indexed(alloc, base),
-            Read::Comment(names, line, text) => is_comment(alloc, names, line.as_bytes(), text),
+            Read::Comment(base, line, text) => is_comment(alloc, base, line.as_bytes(), text),
             Read::Cut => Ok(Cut::new(alloc)?.room() == 65_537),
             Read::Columns(base, message) => is_asked(alloc, base, message.as_bytes()),
             Read::Refused(base, message, name) => {
@@ -70,13 +67,8 @@ fn an_object_file_wants_memory_for_its_last_objects(rt: HostRuntime) -> Result<(
 }
 
 /// Whether a line is read as a comment with a text.
-fn is_comment(
-    alloc: Global,
-    names: &ObjectNames,
-    line: &[u8],
-    text: &str,
-) -> Result<bool, AllocError> {
-    match read_command(alloc, names, line) {
+fn is_comment(alloc: Global, base: &Base, line: &[u8], text: &str) -> Result<bool, AllocError> {
+    match read_command(alloc, base, line) {
         Ok(order) => Ok(is_comment_of(&order.act, text)),
         Err(CommandErr::Memory) => Err(AllocError),
         Err(CommandErr::NoTime) => Ok(false),
@@ -93,37 +85,18 @@ fn is_comment_of(act: &Act, expected: &str) -> bool {
 }
 
 /// Reads a comment with a long text.
-fn assert_comment<R: Abort + AllocGlobal>(rt: &R, names: &ObjectNames) -> Result<(), Fail> {
+fn assert_comment<R: Abort + AllocGlobal>(rt: &R, base: &Base) -> Result<(), Fail> {
     let text = "0123456789".repeat(rt.alloc(), 6_000)?;
     let text = text.as_str();
     let line = format!(in rt.alloc(); "[100] ADD_SVC_COMMENT;web1;http;1;anna;{text}")?;
-    let mut call = Read::Comment(names, line.as_str(), text);
+    let mut call = Read::Comment(base, line.as_str(), text);
     assert_late(rt, "read_command", 20, &mut call)
 }
 
 #[test]
 fn a_command_wants_memory_for_its_texts(rt: HostRuntime) -> Result<(), Fail> {
     let base = base_of(rt.alloc(), SMALL)?.ok_or("the object file is refused")?;
-    let names = ObjectNames::of(rt.alloc(), &base)?;
-    assert_comment(&rt, &names)
-}
-
-/// Whether the names of a large site are all indexed: a comment names the last service.
-fn is_indexed(alloc: Global, base: &Base) -> Result<bool, AllocError> {
-    let names = ObjectNames::of(alloc, base)?;
-    is_comment(
-        alloc,
-        &names,
-        b"[1] ADD_SVC_COMMENT;h0;s999;1;anna;why",
-        "why",
-    )
-}
-
-#[test]
-fn the_names_of_objects_want_memory_for_the_last_ones(rt: HostRuntime) -> Result<(), Fail> {
-    let objects = large(rt.alloc())?;
-    let base = base_of(rt.alloc(), objects.as_bytes())?.ok_or("the object file is refused")?;
-    assert_late(&rt, "ObjectNames::of", 20, &mut Read::Names(&base))
+    assert_comment(&rt, &base)
 }
 
 fn are_states(columns: &[Col]) -> bool {

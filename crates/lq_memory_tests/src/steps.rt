@@ -2,7 +2,7 @@
 
 use crate::scarce::{Call, Scarce, assert_late, is_late, successes};
 use crate::site::{COUNT, SMALL, base_of, is_reply, large, live_of};
-use lq_commands::{ObjectNames, read_command};
+use lq_commands::read_command;
 use lq_events::Update;
 use lq_live::Live;
 use lq_log::LogBook;
@@ -60,8 +60,7 @@ fn rows_after(alloc: Global, row: Option<&str>, plays: usize) -> Result<String, 
 /// The update of a command on the small site, at the second 100.
 fn update_of(alloc: Global, command: &str) -> Result<Update, Fail> {
     let base = base_of(alloc, SMALL)?.ok_or("the object file is refused")?;
-    let names = ObjectNames::of(alloc, &base)?;
-    let order = read_command(alloc, &names, command.as_bytes())
+    let order = read_command(alloc, &base, command.as_bytes())
         .ok()
         .ok_or("no command")?;
     Ok(Update {
