@@ -1,0 +1,5 @@
+pub mod Compiled
+pub mod Patterns
+pub mod Reading
+pub mod Ready
+pub mod Tests

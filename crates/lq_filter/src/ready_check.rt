@@ -1,0 +1,186 @@
+ghost use Rattle.std.specs.Prelude.{◌≡◌, IfOk, map};
+ghost use Rattle.std.specs.Fmt.{decimal};
+ghost use Rattle.std.specs.List.{list_any};
+ghost use Rattle.lq_schema.specs.Value.{Number, Words, shown};
+ghost use Rattle.lq_filter.specs.Patterns.{is_found};
+ghost use Rattle.lq_filter.specs.Ready.{property_of};
+ghost use Rattle.lq_filter.specs.Tests.{has_property, is_met, list_has, negated_if, number_has, pair_text, text_has};
+
+use crate::check::{Check, Comparison, Property};
+use crate::pattern::ReadyPattern;
+use lq_records::{Memory, Text};
+use lq_schema::Val;
+use std::alloc::Global;
+use std::marker::Model;
+
+/// A check with the matcher that it searches with, which serves for any number of values. Contracts
+/// see it as the check.
+#[derive(Drop)]
+pub struct ReadyCheck<'c> {
+    negated: bool,
+    property: ReadyProperty<'c>,
+}
+
+#[derive(Drop)]
+enum ReadyProperty<'c> {
+    Compares(&'c Comparison),
+    Matches(ReadyPattern<'c>),
+}
+
+impl<'c> Model for ReadyCheck<'c> {
+    ghost use Rattle.lq_filter.specs.Ready.{check_of};
+    ghost use Rattle.lq_filter.specs.declared.check.Check.{Check};
+
+    ghost Value = { Check };
+
+    ghost view = { λ ready. check_of ready.negated ready.property };
+}
+
+impl Check {
+    /// The check made ready. The only error is out of memory.
+    pub fn ready(&self, alloc: Global) -> Result<ReadyCheck<'_>, Memory>
+        ensures { IfOk result (λ ready. ready ≡ self.now) }
+    {
+        let property = self.property.ready(alloc)?;
+        Ok(ReadyCheck {
+            negated: self.negated,
+            property,
+        })
+    }
+}
+
+impl Property {
+    fn ready(&self, alloc: Global) -> Result<ReadyProperty<'_>, Memory>
+        ensures { IfOk result (λ ready. property_of ready ≡ self.now) }
+    {
+        match self {
+            Property::Compares(comparison) => Ok(ReadyProperty::Compares(comparison)),
+            Property::Matches(pattern) => Ok(ReadyProperty::Matches(pattern.ready(alloc)?)),
+        }
+    }
+}
+
+impl ReadyCheck<'_> {
+    /// Whether a value is as the check asks. The only error is out of memory, which a list of
+    /// numbers or of services may want.
+    pub fn is_met(&mut self, alloc: Global, value: &Val<'_>) -> Result<bool, Memory>
+        ensures met { IfOk result (λ met. met ≡ is_met self.old (shown value.now)) }
+        ensures same { self.new ≡ self.old }
+    {
+        let holds = self.property.holds_for(alloc, value)?;
+        Ok(holds != self.negated)
+    }
+
+    /// Whether a number is as the check asks.
+    #[inline]
+    pub fn is_met_by_number(&self, number: i128) -> bool
+        ensures { result ≡ is_met self.now (Number number) }
+    {
+        self.property.holds_for_number(number) != self.negated
+    }
+
+    /// Whether a text is as the check asks.
+    pub fn is_met_by_text(&mut self, text: &str) -> bool
+        ensures met { result ≡ is_met self.old (Words text.now) }
+        ensures same { self.new ≡ self.old }
+    {
+        self.property.holds_for_text(text) != self.negated
+    }
+}
+
+impl ReadyProperty<'_> {
+    /// Whether a value has the property.
+    fn holds_for(&mut self, alloc: Global, value: &Val<'_>) -> Result<bool, Memory>
+        ensures holds { IfOk result (λ holds. holds ≡ has_property (property_of self.old) (shown value.now)) }
+        ensures same { property_of self.new ≡ property_of self.old }
+    {
+        match value {
+            Val::Int(number) => Ok(self.holds_for_number(*number)),
+            Val::Str(text) => Ok(self.holds_for_text(text)),
+            Val::Own(text) => Ok(self.holds_for_text(text.as_str())),
+            Val::List(texts) => Ok(self.holds_for_list(texts.as_slice())),
+            Val::Nums(numbers) => {
+                let elements = number_texts(alloc, numbers.as_slice())?;
+                Ok(self.holds_for_list(elements.as_slice()))
+            }
+            Val::Pairs(pairs) => {
+                let elements = pair_texts(alloc, pairs.as_slice())?;
+                Ok(self.holds_for_list(elements.as_slice()))
+            }
+        }
+    }
+
+    #[inline]
+    fn holds_for_number(&self, number: i128) -> bool
+        ensures { result ≡ number_has (property_of self.now) number }
+    {
+        match self {
+            ReadyProperty::Compares(comparison) => comparison.holds_for_number(number),
+            ReadyProperty::Matches(_) => false,
+        }
+    }
+
+    fn holds_for_text(&mut self, text: &str) -> bool
+        ensures holds { result ≡ text_has (property_of self.old) text.now }
+        ensures same { property_of self.new ≡ property_of self.old }
+    {
+        match self {
+            ReadyProperty::Compares(comparison) => comparison.holds_for_text(text),
+            ReadyProperty::Matches(pattern) => pattern.is_found(text),
+        }
+    }
+
+    fn holds_for_list(&mut self, elements: &[Text]) -> bool
+        ensures holds { result ≡ list_has (property_of self.old) elements.now }
+        ensures same { property_of self.new ≡ property_of self.old }
+    {
+        match self {
+            ReadyProperty::Compares(comparison) => comparison.holds_for_list(elements),
+            ReadyProperty::Matches(pattern) => is_found_in(pattern, elements),
+        }
+    }
+}
+
+/// Whether the pattern is found in an element.
+fn is_found_in(pattern: &mut ReadyPattern<'_>, elements: &[Text]) -> bool
+    ensures found { result ≡ list_any (is_found pattern.old) elements.now }
+    ensures same { pattern.new ≡ pattern.old }
+{
+    for element in elements {
+        if pattern.is_found(element.as_str()) {
+            return true;
+        }
+    }
+    false
+}
+
+/// The decimal text of each number.
+fn number_texts(alloc: Global, numbers: &[u64]) -> Result<Vec<Text>, Memory>
+    ensures { IfOk result (λ texts. texts.items ≡ map decimal numbers.now) }
+{
+    let mut texts = Vec::with_capacity(alloc, numbers.len())?;
+    for number in numbers {
+        texts.push(Text::from_string(number.to_string(alloc)?)?)?;
+    }
+    Ok(texts)
+}
+
+/// The text of each service: its host's name, `|` and its description.
+fn pair_texts(alloc: Global, pairs: &[(Text, Text)]) -> Result<Vec<Text>, Memory>
+    ensures { IfOk result (λ texts. texts.items ≡ map pair_text pairs.now) }
+{
+    let mut texts = Vec::with_capacity(alloc, pairs.len())?;
+    for (host, description) in pairs {
+        texts.push(pair_text(alloc, host, description)?)?;
+    }
+    Ok(texts)
+}
+
+fn pair_text(alloc: Global, host: &Text, description: &Text) -> Result<Text, Memory>
+    ensures { IfOk result (λ text. text ≡ pair_text (host.now, description.now)) }
+{
+    let mut text = String::from_str(alloc, host.as_str())?;
+    text.push('|')?;
+    text.push_str(description.as_str())?;
+    Text::from_string(text)
+}
