@@ -1,5 +1,7 @@
 pub mod Compiled
+pub mod Linked
 pub mod Patterns
 pub mod Reading
 pub mod Ready
 pub mod Tests
+pub mod Trees

@@ -21,9 +21,12 @@ pub struct ReadyCheck<'c> {
     property: ReadyProperty<'c>,
 }
 
+/// A property with the matcher that it is looked for with.
 #[derive(Drop)]
-enum ReadyProperty<'c> {
+pub enum ReadyProperty<'c> {
+    /// The value compares so with another one.
     Compares(&'c Comparison),
+    /// The pattern is found in the text, or in an element of the list.
     Matches(ReadyPattern<'c>),
 }
 
