@@ -1,9 +1,9 @@
 -- The trees of headers, one header after the other.
-use Rattle.std.proofs.Common.{◌≡◌, ℕ, zero, suc, ◌+◌, ◌-◌, ◌<◌, ◌≤◌, Bool, true, List, [], ◌∷◌, ◌++◌, length, take, drop, reverse, get_or, refl, sym, ap, ◌∙◌, inl, inr, arith, length-drop}
+use Rattle.std.proofs.Common.{◌≡◌, ℕ, zero, suc, ◌+◌, ◌-◌, ◌<◌, ◌≤◌, Bool, true, false, List, [], ◌∷◌, ◌++◌, length, take, drop, reverse, get_or, refl, sym, ap, ◌∙◌, inl, inr, arith, length-drop}
 use Rattle.std.proofs.lemmas.Bool.{cases_lt}
 use Rattle.std.proofs.lemmas.List.{drop-drop, get_or_append_left, get_or_at, length-append, length-map, length-reverse, map-append, reverse-append, take-append-le, take_all, take_more}
 use Rattle.lq_filter.specs.Linked.{AreLinked, AreStacked, IsTree, SizedHeader, headers_of, truths_before}
-use Rattle.lq_filter.specs.Trees.{first_negated, height, tree_count, truths}
+use Rattle.lq_filter.specs.Trees.{first_negated, height, holds, joined, tree_count, truths}
 use Rattle.lq_filter.specs.declared.header.Header.{Header}
 use Rattle.lq_filter.specs.declared.header.Header.TheVariants as header
 use Rattle.lq_filter.specs.declared.header.Join.{Join}
@@ -165,3 +165,11 @@ count_within (header.Negate ∷ earlier) = omega (arith, count_within earlier)
 
 pub height_within : (nodes : List SizedHeader) → height (headers_of nodes) ≤ length nodes
 height_within nodes = omega (arith, count_within (reverse (headers_of nodes)), length-reverse (headers_of nodes), length-map nodes (λ (node : SizedHeader). node.header))
+
+-- the trees of all headers, joined by and
+pub all_trees : (truth : Test → Bool) (nodes : List SizedHeader)
+    → joined false (take (length nodes) (truths_before truth nodes (length nodes))) ≡ holds truth (headers_of nodes)
+all_trees truth nodes =
+    let few : length (truths_before truth nodes (length nodes)) ≤ length nodes
+    = omega (arith, ap length (whole_truths truth nodes), length-truths truth (reverse (headers_of nodes)), height_within nodes) in
+    ap (joined false) (take_all (length nodes) (truths_before truth nodes (length nodes)) few ∙ whole_truths truth nodes)

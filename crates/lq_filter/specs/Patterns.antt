@@ -12,7 +12,8 @@ pub record PatternText : Type 0 where
 
 -- the options with which the text is read
 abbrev pub options : Bool → Config
-options folded = record default_config { flags = record default_config.flags { case_insensitive = folded } }
+options folded =
+    record default_config { flags = record default_config.flags { case_insensitive = folded } }
 
 -- what nests at most 250 deep
 abbrev pub within_depth : Option (Nested Re × Names) → Option Re

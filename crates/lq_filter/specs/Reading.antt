@@ -57,7 +57,8 @@ number_asked negated ordering None = Err err.NotNumber
 number_asked negated ordering (Some number) = asks negated (Compares (by.Number ordering number))
 
 abbrev pub number_comparison : Bool → Ordering → List ℕ → Result Check TestErr
-number_comparison negated ordering value = number_asked negated ordering (integer_read (without_end value))
+number_comparison negated ordering value =
+    number_asked negated ordering (integer_read (without_end value))
 
 abbrev pub text_comparison : Bool → Ordering → List ℕ → Result Check TestErr
 text_comparison negated ordering value = asks negated (Compares (by.Text ordering value))

@@ -1,5 +1,5 @@
 -- What a test asks of the value of a cell.
-use Rattle.std.specs.Prelude.{ℕ, ℤ, ◌++◌, ◌∷◌, Bool, false, not, List, length, map, ◌==◌, bytes_eq, int_lt, if◌then◌else◌}
+use Rattle.std.specs.Prelude.{ℕ, ℤ, ◌++◌, ◌∷◌, Bool, true, false, not, List, length, map, ◌==◌, bytes_eq, int_lt, if◌then◌else◌}
 use Rattle.std.specs.Cmp.Lexicographic.{slice_cmp}
 use Rattle.std.specs.Fmt.{decimal}
 use Rattle.std.specs.List.{list_any}
@@ -70,3 +70,8 @@ negated_if negated test = if negated then not test else test
 -- whether a value is as a check asks
 abbrev pub is_met : Check → Value → Bool
 is_met check value = negated_if check.negated (has_property check.property value)
+
+-- whether a check asks for a number
+abbrev pub is_of_number : Property → Bool
+is_of_number (Compares (by.Number ordering operand)) = true
+is_of_number _ = false

@@ -2,13 +2,14 @@
 --
 -- Headers are read from the last one back to the first. A test is a tree by itself. `And` and `Or`
 -- are followed by the trees that they join, and `Negate` by the one that it negates.
-use Rattle.std.specs.Prelude.{ℕ, ◌+◌, ◌-◌, Bool, true, false, not, List, [], ◌∷◌, drop, reverse, take}
+use Rattle.std.specs.Prelude.{ℕ, ◌+◌, ◌-◌, Bool, true, false, not, Option, None, Some, List, [], ◌∷◌, drop, reverse, take}
 use Rattle.std.specs.List.{list_all, list_any}
 use Rattle.lq_schema.specs.Value.{Value}
 use Rattle.lq_schema.specs.declared.columns.Col.{Col}
 use Rattle.lq_filter.specs.Tests.{is_met}
 use Rattle.lq_filter.specs.declared.header.Header.{Header}
 use Rattle.lq_filter.specs.declared.header.Header.TheVariants as header
+use Rattle.lq_filter.specs.declared.header.Join.{Join}
 use Rattle.lq_filter.specs.declared.read.Test.{Test}
 
 -- whether some of the truths holds, or all do
@@ -20,8 +21,8 @@ abbrev pub first_negated : List Bool → List Bool
 first_negated [] = []
 first_negated (truth ∷ truths) = not truth ∷ truths
 
--- The truths of the trees, by the truths of the tests. The headers are given from the last one back,
--- and so are the trees.
+-- The truths of the trees, by the truths of the tests. The headers are given from the last one
+-- back, and so are the trees.
 abbrev pub truths : (Test → Bool) → List Header → List Bool
 truths truth [] = []
 truths truth (header.Test test ∷ earlier) = truth test ∷ truths truth earlier
@@ -48,6 +49,14 @@ holds truth headers = joined false (truths truth (reverse headers))
 -- the truth of a test on a row, which has a value for each column
 abbrev pub truth_on : (Col → Value) → Test → Bool
 truth_on row test = is_met test.check (row test.column)
+
+abbrev pub join_of : Header → Option Join
+join_of (header.Join join) = Some join
+join_of _ = None
+
+abbrev pub is_negation : Header → Bool
+is_negation header.Negate = true
+is_negation _ = false
 
 -- the column of a header's test is one of which a fact holds
 abbrev pub HasColumn : (Col → Type 0) → Header → Type 0

@@ -89,7 +89,8 @@ fn contains(elements: &[Text], operand: &str) -> bool
 }
 
 fn contains_nocase(elements: &[Text], operand: &str) -> bool
-    ensures { result ≡ list_any (λ element. str_eq_ignore_ascii_case element operand.now) elements.now }
+    ensures { result
+        ≡ list_any (λ element. str_eq_ignore_ascii_case element operand.now) elements.now }
 {
     elements
         .iter()

@@ -1,7 +1,12 @@
-ghost use Rattle.std.specs.Prelude.{◌≡◌};
+ghost use Rattle.std.specs.Prelude.{◌≡◌, All, IfOk};
 ghost use Rattle.lq_filter.specs.Linked.{AreLinked, headers_of};
+ghost use Rattle.lq_filter.specs.Trees.{HasColumn, holds, truth_on};
 
+use crate::cells::Cells;
 use crate::node::Node;
+use crate::ready::{ReadyFilter, ready_filter};
+use lq_records::Memory;
+use std::alloc::Global;
 use std::marker::Model;
 
 /// Which rows are chosen. Contracts see it as the list of its headers, in the order of their lines.
@@ -28,5 +33,22 @@ impl Filter {
         ensures { result ≡ headers_of nodes.items }
     {
         Filter { nodes }
+    }
+
+    /// The filter with the matchers of its patterns: what serves where many rows are tested. The
+    /// only error is out of memory.
+    pub fn ready(&self, alloc: Global) -> Result<ReadyFilter<'_>, Memory>
+        ensures { IfOk result (λ ready. ready ≡ self.now) }
+    {
+        ready_filter(alloc, &self.nodes)
+    }
+
+    /// Whether a row is chosen. It makes a matcher for each pattern, and drops it. The only error
+    /// is out of memory.
+    pub fn holds<C: Cells>(&self, alloc: Global, cells: &C) -> Result<bool, Memory>
+        requires { All (HasColumn (C.has cells.now)) self.now }
+        ensures { IfOk result (λ chosen. chosen ≡ holds (truth_on (C.cell cells.now)) self.now) }
+    {
+        self.ready(alloc)?.holds(alloc, cells)
     }
 }

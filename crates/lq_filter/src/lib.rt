@@ -1,6 +1,7 @@
 //! Which rows a query chooses: tests of cells, patterns, and the filters that join tests.
 #![tactic(auto)]
 
+mod cells;
 mod check;
 mod filter;
 mod header;
@@ -8,14 +9,17 @@ mod node;
 mod operator;
 mod pattern;
 mod read;
+mod ready;
 mod ready_check;
 mod stack;
 
+pub use cells::Cells;
 pub use check::{Check, Comparison, Property};
 pub use filter::Filter;
 pub use header::{Header, Join};
 pub use operator::Operator;
 pub use pattern::{Pattern, ReadyPattern};
 pub use read::{Test, TestErr};
+pub use ready::{ReadyFilter, ReadyHeader, ReadyTest};
 pub use ready_check::{ReadyCheck, ReadyProperty};
 pub use stack::{Stack, StackErr};

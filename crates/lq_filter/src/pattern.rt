@@ -32,9 +32,9 @@ impl Model for Pattern {
 
 impl Pattern {
     /// The pattern of a text; where `folded`, letters match in either case. None exactly where the
-    /// text has more than 200 bytes or a `{`, or where the grammar of `regex` reads no pattern in it,
-    /// or one that nests more than 250 deep. The only error is out of memory, which is also given
-    /// where the compiled pattern would pass the size limit of `regex`.
+    /// text has more than 200 bytes or a `{`, or where the grammar of `regex` reads no pattern in
+    /// it, or one that nests more than 250 deep. The only error is out of memory, which is also
+    /// given where the compiled pattern would pass the size limit of `regex`.
     pub fn new(alloc: Global, source: &str, folded: bool) -> Result<Option<Self>, Memory>
         ensures { IfOk result (λ pattern. pattern ≡ pattern_of folded source.now) }
     {

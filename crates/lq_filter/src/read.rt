@@ -49,8 +49,8 @@ impl Test {
     /// The test of a column, by the word of an operator and the value behind it. A number's value
     /// loses the blanks at its end; any other is taken as it stands. The errors, the first that
     /// holds: `Operator` where the word is no operator; `NotAllowed` where the operator isn't one
-    /// for the kind of the column, or where `=` or `!=` has a value on a list; `NotNumber` where the
-    /// column has numbers and the value is no signed number of 64 bits; `BadPattern` where the
+    /// for the kind of the column, or where `=` or `!=` has a value on a list; `NotNumber` where
+    /// the column has numbers and the value is no signed number of 64 bits; `BadPattern` where the
     /// operator takes a pattern and the value is none. Besides, memory may run out.
     pub fn read(alloc: Global, c: Col, op: &str, value: &str) -> Result<Test, TestErr>
         ensures { Gives result (test_read c op.now value.now) }

@@ -4,7 +4,7 @@ ghost use Rattle.std.specs.List.{list_any};
 ghost use Rattle.lq_schema.specs.Value.{Number, Words, shown};
 ghost use Rattle.lq_filter.specs.Patterns.{is_found};
 ghost use Rattle.lq_filter.specs.Ready.{property_of};
-ghost use Rattle.lq_filter.specs.Tests.{has_property, is_met, list_has, negated_if, number_has, pair_text, text_has};
+ghost use Rattle.lq_filter.specs.Tests.{has_property, is_met, is_of_number, list_has, negated_if, number_has, pair_text, text_has};
 
 use crate::check::{Check, Comparison, Property};
 use crate::pattern::ReadyPattern;
@@ -74,6 +74,17 @@ impl ReadyCheck<'_> {
         Ok(holds != self.negated)
     }
 
+    /// Whether the check asks for a number.
+    #[inline]
+    pub fn is_of_number(&self) -> bool
+        ensures { result ≡ is_of_number self.now.property }
+    {
+        matches!(
+            &self.property,
+            ReadyProperty::Compares(Comparison::Number(_, _))
+        )
+    }
+
     /// Whether a number is as the check asks.
     #[inline]
     pub fn is_met_by_number(&self, number: i128) -> bool
@@ -94,7 +105,8 @@ impl ReadyCheck<'_> {
 impl ReadyProperty<'_> {
     /// Whether a value has the property.
     fn holds_for(&mut self, alloc: Global, value: &Val<'_>) -> Result<bool, Memory>
-        ensures holds { IfOk result (λ holds. holds ≡ has_property (property_of self.old) (shown value.now)) }
+        ensures holds { IfOk result
+            (λ holds. holds ≡ has_property (property_of self.old) (shown value.now)) }
         ensures same { property_of self.new ≡ property_of self.old }
     {
         match value {

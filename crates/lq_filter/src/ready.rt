@@ -1,0 +1,243 @@
+ghost use Rattle.std.specs.Prelude.{◌≡◌, ◌∷◌, [], ◌<◌, ◌≤◌, All, IfOk, length, take};
+ghost use Rattle.lq_filter.specs.Linked.{AreLinked, headers_of, truths_before};
+ghost use Rattle.lq_filter.specs.ReadyHeaders.{header_of, test_of};
+ghost use Rattle.lq_filter.specs.Trees.{HasColumn, holds, is_negation, join_of, joined, truth_on};
+ghost use Rattle.lq_filter.specs.declared.header.Header.TheVariants as header;
+ghost use Rattle.lq_filter.specs.declared.read.Test.{Test};
+
+use crate::cells::Cells;
+use crate::header::{Header, Join};
+use crate::node::Node;
+use crate::read::Test;
+use crate::ready_check::ReadyCheck;
+use lq_records::Memory;
+use lq_schema::Col;
+use std::alloc::Global;
+use std::marker::Model;
+
+/// A test whose check is ready.
+#[derive(Drop)]
+pub struct ReadyTest<'f> {
+    /// The column whose cell is tested.
+    pub column: Col,
+    /// What is asked of the cell's value.
+    pub check: ReadyCheck<'f>,
+}
+
+/// A header whose test is ready.
+#[derive(Drop)]
+pub enum ReadyHeader<'f> {
+    /// `Filter`: a test.
+    Test(ReadyTest<'f>),
+    /// `And`, `Or`: the last filters become one.
+    Join(Join),
+    /// `Negate`: the last filter becomes its opposite.
+    Negate,
+}
+
+/// A header made ready, and how many headers the tree that ends with it has.
+#[derive(Drop)]
+struct Step<'f> {
+    header: ReadyHeader<'f>,
+    size: usize,
+}
+
+impl<'f> Model for Step<'f> {
+    ghost use Rattle.lq_filter.specs.Linked.{SizedHeader};
+    ghost use Rattle.lq_filter.specs.ReadyHeaders.{header_of};
+
+    ghost Value = { SizedHeader };
+
+    ghost view = { λ step. record { header = header_of step.header; size = step.size } };
+}
+
+/// A filter with the matchers of its patterns, which serves for any number of rows. Contracts see
+/// it as the filter: the list of its headers, in the order of their lines.
+#[derive(Drop)]
+pub struct ReadyFilter<'f> {
+    steps: Vec<Step<'f>>,
+}
+
+impl<'f> Model for ReadyFilter<'f> {
+    ghost use Rattle.std.specs.Prelude.{List};
+    ghost use Rattle.lq_filter.specs.Linked.{AreLinked, headers_of};
+    ghost use Rattle.lq_filter.specs.declared.header.Header.{Header};
+
+    ghost Value = { List Header };
+
+    ghost view = { λ ready. headers_of ready.steps.items };
+
+    ghost invariant = { λ ready. AreLinked ready.steps.items };
+}
+
+/// The cells of a row that is tested, and the allocator for what their values take.
+#[derive(Drop)]
+struct Row<'r, C> {
+    alloc: Global,
+    cells: &'r C,
+}
+
+impl ReadyFilter<'_> {
+    /// Whether a row is chosen. The tests are made in the order of their lines, as far as the
+    /// answer wants them. The only error is out of memory.
+    pub fn holds<C: Cells>(&mut self, alloc: Global, cells: &C) -> Result<bool, Memory>
+        requires { All (HasColumn (C.has cells.now)) self.old }
+        ensures value { IfOk result
+            (λ chosen. chosen ≡ holds (truth_on (C.cell cells.now)) self.old) }
+        ensures same { self.new ≡ self.old }
+    {
+        let count = self.steps.len();
+        let row = Row { alloc, cells };
+        joined_at(&row, &mut self.steps, count, Join { count, any: false })
+    }
+}
+
+/// The nodes of a filter made ready.
+pub(crate) fn ready_filter(alloc: Global, nodes: &[Node]) -> Result<ReadyFilter<'_>, Memory>
+    requires { AreLinked nodes.now }
+    ensures { IfOk result (λ ready. ready ≡ headers_of nodes.now) }
+{
+    Ok(ReadyFilter {
+        steps: steps_of(alloc, nodes)?,
+    })
+}
+
+fn steps_of(alloc: Global, nodes: &[Node]) -> Result<Vec<Step<'_>>, Memory>
+    ensures { IfOk result (λ steps. steps.items ≡ nodes.now) }
+{
+    let mut steps = Vec::with_capacity(alloc, nodes.len())?;
+    for node in nodes {
+        let header = ready_header(alloc, &node.header)?;
+        steps.push(Step {
+            header,
+            size: node.size,
+        })?;
+    }
+    Ok(steps)
+}
+
+fn ready_header(alloc: Global, header: &Header) -> Result<ReadyHeader<'_>, Memory>
+    ensures { IfOk result (λ ready. header_of ready ≡ header.now) }
+{
+    match header {
+        Header::Test(test) => Ok(ReadyHeader::Test(ReadyTest {
+            column: test.column,
+            check: test.check.ready(alloc)?,
+        })),
+        Header::Join(join) => Ok(ReadyHeader::Join(*join)),
+        Header::Negate => Ok(ReadyHeader::Negate),
+    }
+}
+
+/// Whether the last trees before a place, as many as the join takes, give a truth together. The
+/// first of them is looked at first.
+#[cycle(truth)]
+fn joined_at<C: Cells>(
+    row: &Row<'_, C>,
+    steps: &mut [Step<'_>],
+    place: usize,
+    join: Join,
+) -> Result<bool, Memory>
+    requires linked { AreLinked steps.old }
+    requires within { place ≤ length steps.old }
+    requires columns { All (HasColumn (C.has row.now.cells.now)) (headers_of steps.old) }
+    ensures value { IfOk result (λ truth. truth ≡ joined join.any
+        (take join.count (truths_before (truth_on (C.cell row.now.cells.now)) steps.old place))) }
+    ensures same { steps.new ≡ steps.old }
+{
+    if place == 0 || join.count == 0 {
+        return Ok(!join.any);
+    }
+    let begin = place - steps[place - 1].size();
+    let earlier = Join {
+        count: join.count - 1,
+        any: join.any,
+    };
+    if joined_at(row, steps, begin, earlier)? == join.any {
+        return Ok(join.any);
+    }
+    truth_at(row, steps, place)
+}
+
+/// Whether the tree that ends at a place holds.
+#[cycle(truth)]
+fn truth_at<C: Cells>(
+    row: &Row<'_, C>,
+    steps: &mut [Step<'_>],
+    place: usize,
+) -> Result<bool, Memory>
+    requires linked { AreLinked steps.old }
+    requires some { 0 < place }
+    requires within { place ≤ length steps.old }
+    requires columns { All (HasColumn (C.has row.now.cells.now)) (headers_of steps.old) }
+    ensures value { IfOk result (λ truth. take 1
+        (truths_before (truth_on (C.cell row.now.cells.now)) steps.old place) ≡ truth ∷ []) }
+    ensures same { steps.new ≡ steps.old }
+{
+    if let Some(join) = steps[place - 1].join() {
+        return joined_at(row, steps, place - 1, join);
+    }
+    if steps[place - 1].is_negation() {
+        let truth = truth_at(row, steps, place - 1)?;
+        return Ok(!truth);
+    }
+    steps[place - 1].is_met(row)
+}
+
+impl Step<'_> {
+    fn size(&self) -> usize
+        ensures { result ≡ self.now.size }
+    {
+        self.size
+    }
+
+    /// How the header joins trees, where it does.
+    fn join(&self) -> Option<Join>
+        ensures { result ≡ join_of self.now.header }
+    {
+        match &self.header {
+            ReadyHeader::Join(join) => Some(*join),
+            _ => None,
+        }
+    }
+
+    fn is_negation(&self) -> bool
+        ensures { result ≡ is_negation self.now.header }
+    {
+        matches!(&self.header, ReadyHeader::Negate)
+    }
+
+    /// Whether the header's test is met by a row.
+    fn is_met<C: Cells>(&mut self, row: &Row<'_, C>) -> Result<bool, Memory>
+        requires { HasColumn (C.has row.now.cells.now) self.old.header }
+        ensures met { (test : Test) → self.old.header ≡ header.Test test →
+            IfOk result (λ met. met ≡ truth_on (C.cell row.now.cells.now) test) }
+        ensures same { self.new ≡ self.old }
+    {
+        match &mut self.header {
+            ReadyHeader::Test(test) => test.is_met(row),
+            _ => Ok(false),
+        }
+    }
+}
+
+impl ReadyTest<'_> {
+    /// Whether a row meets the test. Where a number or a text stands in the cell as it is, no value
+    /// is made of it.
+    fn is_met<C: Cells>(&mut self, row: &Row<'_, C>) -> Result<bool, Memory>
+        requires { C.has row.now.cells.now self.old.column }
+        ensures met { IfOk result
+            (λ met. met ≡ truth_on (C.cell row.now.cells.now) (test_of self.old)) }
+        ensures same { test_of self.new ≡ test_of self.old }
+    {
+        if self.check.is_of_number() {
+            if let Some(number) = row.cells.number(self.column) {
+                return Ok(self.check.is_met_by_number(number));
+            }
+        } else if let Some(text) = row.cells.text(self.column) {
+            return Ok(self.check.is_met_by_text(text));
+        }
+        let value = row.cells.get(row.alloc, self.column)?;
+        self.check.is_met(row.alloc, &value)
+    }
+}
