@@ -1,3 +1,4 @@
 pub mod PatternLemmas
+pub mod PrefixLemmas
 pub mod StepLemmas
 pub mod TreeLemmas

@@ -1,9 +1,9 @@
 -- The trees of headers, one header after the other.
-use Rattle.std.proofs.Common.{◌≡◌, ℕ, zero, suc, ◌+◌, ◌-◌, ◌<◌, ◌≤◌, Bool, true, false, List, [], ◌∷◌, ◌++◌, length, take, drop, reverse, get_or, refl, sym, ap, ◌∙◌, inl, inr, arith, length-drop}
+use Rattle.std.proofs.Common.{◌≡◌, ℕ, zero, suc, ◌+◌, ◌-◌, ◌<◌, ◌≤◌, Bool, true, false, List, [], ◌∷◌, ◌++◌, length, take, drop, reverse, get_or, refl, sym, ap, ◌∙◌, inl, inr, subst, arith, length-drop}
 use Rattle.std.proofs.lemmas.Bool.{cases_lt}
 use Rattle.std.proofs.lemmas.List.{drop-drop, get_or_append_left, get_or_at, length-append, length-map, length-reverse, map-append, reverse-append, take-append-le, take_all, take_more}
 use Rattle.lq_filter.specs.Linked.{AreLinked, AreStacked, IsTree, SizedHeader, headers_of, truths_before}
-use Rattle.lq_filter.specs.Trees.{first_negated, height, holds, joined, tree_count, truths}
+use Rattle.lq_filter.specs.Trees.{HaveTrees, first_negated, height, holds, joined, tree_count, truths}
 use Rattle.lq_filter.specs.declared.header.Header.{Header}
 use Rattle.lq_filter.specs.declared.header.Header.TheVariants as header
 use Rattle.lq_filter.specs.declared.header.Join.{Join}
@@ -29,6 +29,9 @@ length-truths truth (header.Negate ∷ earlier) = length-first_negated (truths t
 
 headers_more : (nodes : List SizedHeader) (node : SizedHeader) → reverse (headers_of (nodes ++ node ∷ [])) ≡ node.header ∷ reverse (headers_of nodes)
 headers_more nodes node = rw (map-append (λ (each : SizedHeader). each.header) nodes (node ∷ []), reverse-append (headers_of nodes) (node.header ∷ [])) refl
+
+have_more : (nodes : List SizedHeader) (node : SizedHeader) → HaveTrees (node.header ∷ reverse (headers_of nodes)) → HaveTrees (reverse (headers_of (nodes ++ node ∷ [])))
+have_more nodes node have = subst HaveTrees (sym (headers_more nodes node)) have
 
 pub height_more : (nodes : List SizedHeader) (node : SizedHeader) → height (headers_of (nodes ++ node ∷ [])) ≡ tree_count (node.header ∷ reverse (headers_of nodes))
 height_more nodes node = ap tree_count (headers_more nodes node)
@@ -126,13 +129,15 @@ pub stacked_test : (nodes : List SizedHeader) (trees : ℕ) (test : Test) → Ar
 stacked_test nodes trees test is = record {
   linked = AreLinked-more nodes (record { header = header.Test test; size = 1 }) is.linked (next_test nodes test);
   count = omega (arith, is.count, height_more nodes (record { header = header.Test test; size = 1 }));
+  trees_before = have_more nodes (record { header = header.Test test; size = 1 }) is.trees_before;
 }
 
-pub stacked_join : (nodes : List SizedHeader) (trees : ℕ) (join : Join) (start : ℕ) → AreStacked nodes trees → start ≤ length nodes → BeginAt nodes join.count start
+pub stacked_join : (nodes : List SizedHeader) (trees : ℕ) (join : Join) (start : ℕ) → AreStacked nodes trees → join.count ≤ trees → start ≤ length nodes → BeginAt nodes join.count start
     → AreStacked (nodes ++ record { header = header.Join join; size = length nodes - start + 1 } ∷ []) (trees - join.count + 1)
-stacked_join nodes trees join start is within begin = record {
+stacked_join nodes trees join start is enough within begin = record {
   linked = AreLinked-more nodes (record { header = header.Join join; size = length nodes - start + 1 }) is.linked (next_join nodes join start within begin);
   count = omega (arith, is.count, height_more nodes (record { header = header.Join join; size = length nodes - start + 1 }));
+  trees_before = have_more nodes (record { header = header.Join join; size = length nodes - start + 1 }) (omega (arith, enough, is.count), is.trees_before);
 }
 
 pub stacked_negate : (nodes : List SizedHeader) (trees : ℕ) (start : ℕ) → AreStacked nodes trees → 0 < trees → start ≤ length nodes → BeginAt nodes 1 start
@@ -140,6 +145,7 @@ pub stacked_negate : (nodes : List SizedHeader) (trees : ℕ) (start : ℕ) → 
 stacked_negate nodes trees start is some within begin = record {
   linked = AreLinked-more nodes (record { header = header.Negate; size = length nodes - start + 1 }) is.linked (next_negate nodes start within (omega (arith, is.count)) begin);
   count = omega (arith, is.count, height_more nodes (record { header = header.Negate; size = length nodes - start + 1 }));
+  trees_before = have_more nodes (record { header = header.Negate; size = length nodes - start + 1 }) (omega (arith, some, is.count), is.trees_before);
 }
 
 -- ---- where trees begin

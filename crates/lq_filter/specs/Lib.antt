@@ -1,6 +1,7 @@
 pub mod Compiled
 pub mod Linked
 pub mod Patterns
+pub mod Prefixes
 pub mod Reading
 pub mod Ready
 pub mod ReadyHeaders

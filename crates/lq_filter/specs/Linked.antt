@@ -1,6 +1,6 @@
 -- Headers with the sizes of their trees: where the tree before another one ends.
 use Rattle.std.specs.Prelude.{◌≡◌, ◌-◌, ◌<◌, ◌≤◌, ℕ, Bool, List, drop, length, map, reverse, slice_index_or, take}
-use Rattle.lq_filter.specs.Trees.{height, truths}
+use Rattle.lq_filter.specs.Trees.{HaveTrees, height, truths}
 use Rattle.lq_filter.specs.declared.header.Header.{Header}
 use Rattle.lq_filter.specs.declared.read.Test.{Test}
 
@@ -34,3 +34,4 @@ pub record AreLinked (nodes : List SizedHeader) : Type 0 where
 pub record AreStacked (nodes : List SizedHeader) (trees : ℕ) : Type 0 where
   pub linked : AreLinked nodes
   pub count : trees ≡ height (headers_of nodes)
+  pub trees_before : HaveTrees (reverse (headers_of nodes))

@@ -2,7 +2,7 @@
 --
 -- Headers are read from the last one back to the first. A test is a tree by itself. `And` and `Or`
 -- are followed by the trees that they join, and `Negate` by the one that it negates.
-use Rattle.std.specs.Prelude.{ℕ, ◌+◌, ◌-◌, Bool, true, false, not, Option, None, Some, List, [], ◌∷◌, drop, reverse, take}
+use Rattle.std.specs.Prelude.{ℕ, ◌+◌, ◌-◌, ◌<◌, ◌≤◌, Bool, true, false, not, Option, None, Some, List, [], ◌∷◌, drop, reverse, take}
 use Rattle.std.specs.List.{list_all, list_any}
 use Rattle.lq_schema.specs.Value.{Value}
 use Rattle.lq_schema.specs.declared.columns.Col.{Col}
@@ -41,6 +41,14 @@ tree_count (header.Negate ∷ earlier) = tree_count earlier
 -- how many trees the headers are, in the order of their lines
 abbrev pub height : List Header → ℕ
 height headers = tree_count (reverse headers)
+
+-- each header has the trees before it that it wants; the headers are given from the last one back
+abbrev pub HaveTrees : List Header → Type 0
+HaveTrees [] = Unit {0}
+HaveTrees (header.Test test ∷ earlier) = HaveTrees earlier
+HaveTrees (header.Join join ∷ earlier) =
+    (join.count ≤ tree_count earlier) × HaveTrees earlier
+HaveTrees (header.Negate ∷ earlier) = (0 < tree_count earlier) × HaveTrees earlier
 
 -- whether all trees hold; the headers are in the order of their lines
 abbrev pub holds : (Test → Bool) → List Header → Bool

@@ -1,5 +1,6 @@
 ghost use Rattle.std.specs.Prelude.{◌≡◌, All, IfOk};
 ghost use Rattle.lq_filter.specs.Linked.{AreLinked, headers_of};
+ghost use Rattle.lq_filter.specs.Prefixes.{AreTrees, Trees, all_hold};
 ghost use Rattle.lq_filter.specs.Trees.{HasColumn, holds, truth_on};
 
 use crate::cells::Cells;
@@ -47,7 +48,11 @@ impl Filter {
     /// is out of memory.
     pub fn holds<C: Cells>(&self, alloc: Global, cells: &C) -> Result<bool, Memory>
         requires { All (HasColumn (C.has cells.now)) self.now }
-        ensures { IfOk result (λ chosen. chosen ≡ holds (truth_on (C.cell cells.now)) self.now) }
+        ensures value { IfOk result
+            (λ chosen. chosen ≡ holds (truth_on (C.cell cells.now)) self.now) }
+        // It is chosen where all trees hold whose prefix expressions the headers are.
+        ensures trees { (trees : Trees) → AreTrees self.now trees →
+            IfOk result (λ chosen. chosen ≡ all_hold (truth_on (C.cell cells.now)) trees) }
     {
         self.ready(alloc)?.holds(alloc, cells)
     }

@@ -1,5 +1,6 @@
 ghost use Rattle.std.specs.Prelude.{◌≡◌, ◌⊎◌, Bool, ◌+◌, ◌-◌, ◌^◌, ◌<◌, ◌≤◌, ◌++◌, ◌∷◌, [], drop, length, IsOkAnd, OnErr, OnOk};
 ghost use Rattle.lq_filter.specs.Linked.{AreLinked, headers_of, truths_before};
+ghost use Rattle.lq_filter.specs.Prefixes.{AreTrees, Trees};
 ghost use Rattle.lq_filter.specs.Trees.{height};
 ghost use Rattle.lq_filter.specs.declared.header.Header.TheVariants as header;
 ghost use Rattle.lq_filter.specs.declared.read.Test.{Test};
@@ -114,7 +115,9 @@ impl Stack {
 
     /// The filter whose headers these are. It takes no memory, and there is no error.
     pub fn finish(self) -> Result<Filter, Memory>
-        ensures { IsOkAnd result (λ filter. filter ≡ self) }
+        ensures same { IsOkAnd result (λ filter. filter ≡ self) }
+        // The headers, read from the last one back, are prefix expressions.
+        ensures trees { (trees : Trees) × AreTrees self trees }
     {
         Ok(Filter::new(self.nodes))
     }

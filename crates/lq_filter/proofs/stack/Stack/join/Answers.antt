@@ -1,4 +1,4 @@
-use Rattle.std.proofs.Common.{◌≡◌, length, vec_len, sym, ap, ◌∙◌}
+use Rattle.std.proofs.Common.{◌≡◌, length, vec_len, sym, ap, ◌∙◌, arith}
 use Rattle.lq_filter.proofs.TreeLemmas.{stacked_join}
 use Rattle.lq_filter.proofs.stack.Stack.join.Goals as goal
 
@@ -8,4 +8,4 @@ invariant_of-self-2 c =
     let ok = rw (c.len.ensures, size) at c.in_ok-add.ensures.ok in
     let earlier = rw c.deref.ensures.value at c.start_of.ensures.earlier in
     let within = rw c.deref.ensures.value at c.start_of.ensures.within in
-    rw ok (stacked_join c.self.inside.nodes.items c.self.inside.height (record { count = c.args.n; any = c.args.or }) c.start_of.result c.self.invariant within earlier)
+    rw ok (stacked_join c.self.inside.nodes.items c.self.inside.height (record { count = c.args.n; any = c.args.or }) c.start_of.result c.self.invariant (omega arith) within earlier)
