@@ -1,4 +1,4 @@
-ghost use Rattle.std.specs.Prelude.{◌≡◌, ◌∷◌, [], ◌<◌, ◌≤◌, All, IfOk, length, take};
+ghost use Rattle.std.specs.Prelude.{◌≡◌, ◌∷◌, [], ◌<◌, ◌≤◌, All, IfOk, length, map, take};
 ghost use Rattle.lq_filter.specs.Linked.{AreLinked, headers_of, truths_before};
 ghost use Rattle.lq_filter.specs.ReadyHeaders.{header_of, test_of};
 ghost use Rattle.lq_filter.specs.Trees.{HasColumn, holds, is_negation, join_of, joined, truth_on};
@@ -89,6 +89,20 @@ impl ReadyFilter<'_> {
         let count = self.steps.len();
         let row = Row { alloc, cells };
         joined_at(&row, &mut self.steps, count, Join { count, any: false })
+    }
+
+    /// Which of the rows are chosen, row by row. The only error is out of memory.
+    pub fn marks<C: Cells>(&mut self, alloc: Global, rows: &[C]) -> Result<Vec<bool>, Memory>
+        requires { All (λ row. All (HasColumn (C.has row)) self.old) rows.now }
+        ensures marks { IfOk result (λ marks.
+            marks.items ≡ map (λ row. holds (truth_on (C.cell row)) self.old) rows.now) }
+        ensures same { self.new ≡ self.old }
+    {
+        let mut marks = Vec::with_capacity(alloc, rows.len())?;
+        for row in rows {
+            marks.push(self.holds(alloc, row)?)?;
+        }
+        Ok(marks)
     }
 }
 
