@@ -1,3 +1,4 @@
+pub mod MarkLemmas
 pub mod PatternLemmas
 pub mod PrefixLemmas
 pub mod StepLemmas

@@ -1,9 +1,10 @@
 -- The trees of headers, one header after the other.
-use Rattle.std.proofs.Common.{◌≡◌, ℕ, zero, suc, ◌+◌, ◌-◌, ◌<◌, ◌≤◌, Bool, true, false, List, [], ◌∷◌, ◌++◌, length, take, drop, reverse, get_or, refl, sym, ap, ◌∙◌, inl, inr, subst, arith, length-drop}
-use Rattle.std.proofs.lemmas.Bool.{cases_lt}
+use Rattle.std.proofs.Common.{◌≡◌, ℕ, zero, suc, ◌+◌, ◌-◌, ◌<◌, ◌≤◌, Bool, true, false, List, [], ◌∷◌, ◌++◌, length, take, drop, filter, reverse, get_or, refl, sym, ap, ◌∙◌, inl, inr, subst, arith, length-drop}
+use Rattle.std.proofs.Math.Logic.{⊎_elim}
+use Rattle.std.proofs.lemmas.Bool.{cases_Bool, cases_lt}
 use Rattle.std.proofs.lemmas.List.{drop-drop, get_or_append_left, get_or_at, length-append, length-map, length-reverse, map-append, reverse-append, take-append-le, take_all, take_more}
 use Rattle.lq_filter.specs.Linked.{AreLinked, AreStacked, IsTree, SizedHeader, headers_of, truths_before}
-use Rattle.lq_filter.specs.Trees.{HaveTrees, first_negated, height, holds, joined, tree_count, truths}
+use Rattle.lq_filter.specs.Trees.{HaveTrees, first_negated, has_pattern, height, holds, joined, pattern_count, tree_count, truths}
 use Rattle.lq_filter.specs.declared.header.Header.{Header}
 use Rattle.lq_filter.specs.declared.header.Header.TheVariants as header
 use Rattle.lq_filter.specs.declared.header.Join.{Join}
@@ -179,3 +180,12 @@ all_trees truth nodes =
     let few : length (truths_before truth nodes (length nodes)) ≤ length nodes
     = omega (arith, ap length (whole_truths truth nodes), length-truths truth (reverse (headers_of nodes)), height_within nodes) in
     ap (joined false) (take_all (length nodes) (truths_before truth nodes (length nodes)) few ∙ whole_truths truth nodes)
+
+-- ---- patterns
+
+pub pattern_nodes : (nodes : List SizedHeader) → length (filter (λ node. has_pattern node.header) nodes) ≡ pattern_count (headers_of nodes)
+pattern_nodes [] = refl
+pattern_nodes (node ∷ nodes) = ⊎_elim
+    (λ (is : has_pattern node.header ≡ true). rw is (ap suc (pattern_nodes nodes)))
+    (λ (other : has_pattern node.header ≡ false). rw other (pattern_nodes nodes))
+    (cases_Bool (has_pattern node.header))

@@ -1,5 +1,6 @@
 pub mod Compiled
 pub mod Linked
+pub mod Marks
 pub mod Patterns
 pub mod Prefixes
 pub mod Reading

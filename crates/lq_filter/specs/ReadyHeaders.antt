@@ -4,7 +4,7 @@ use Rattle.lq_filter.specs.declared.header.Header.TheVariants as header
 use Rattle.lq_filter.specs.declared.read.Test.{Test}
 use Rattle.lq_filter.specs.declared.ready.ReadyHeader.{ReadyHeader}
 use Rattle.lq_filter.specs.declared.ready.ReadyHeader.TheVariants as ready
-use Rattle.lq_filter.specs.declared.ready.ReadyTest.{ReadyTest}
+use Rattle.lq_filter.specs.declared.ready_test.ReadyTest.{ReadyTest}
 
 abbrev pub test_of : ReadyTest → Test
 test_of test = record { column = test.column; check = test.check }

@@ -75,3 +75,8 @@ is_met check value = negated_if check.negated (has_property check.property value
 abbrev pub is_of_number : Property → Bool
 is_of_number (Compares (by.Number ordering operand)) = true
 is_of_number _ = false
+
+-- whether a check looks for a pattern
+abbrev pub asks_for_pattern : Property → Bool
+asks_for_pattern (Compares comparison) = false
+asks_for_pattern (Matches pattern) = true

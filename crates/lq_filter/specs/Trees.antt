@@ -2,11 +2,11 @@
 --
 -- Headers are read from the last one back to the first. A test is a tree by itself. `And` and `Or`
 -- are followed by the trees that they join, and `Negate` by the one that it negates.
-use Rattle.std.specs.Prelude.{ℕ, ◌+◌, ◌-◌, ◌<◌, ◌≤◌, Bool, true, false, not, Option, None, Some, List, [], ◌∷◌, drop, reverse, take}
+use Rattle.std.specs.Prelude.{ℕ, ◌+◌, ◌-◌, ◌<◌, ◌≤◌, Bool, true, false, not, Option, None, Some, List, [], ◌∷◌, drop, filter, length, reverse, take}
 use Rattle.std.specs.List.{list_all, list_any}
 use Rattle.lq_schema.specs.Value.{Value}
 use Rattle.lq_schema.specs.declared.columns.Col.{Col}
-use Rattle.lq_filter.specs.Tests.{is_met}
+use Rattle.lq_filter.specs.Tests.{asks_for_pattern, is_met}
 use Rattle.lq_filter.specs.declared.header.Header.{Header}
 use Rattle.lq_filter.specs.declared.header.Header.TheVariants as header
 use Rattle.lq_filter.specs.declared.header.Join.{Join}
@@ -71,3 +71,12 @@ abbrev pub HasColumn : (Col → Type 0) → Header → Type 0
 HasColumn has (header.Test test) = has test.column
 HasColumn has (header.Join join) = Unit {0}
 HasColumn has header.Negate = Unit {0}
+
+-- whether a header is a test that looks for a pattern
+abbrev pub has_pattern : Header → Bool
+has_pattern (header.Test test) = asks_for_pattern test.check.property
+has_pattern _ = false
+
+-- how many patterns are looked for
+abbrev pub pattern_count : List Header → ℕ
+pattern_count headers = length (filter has_pattern headers)

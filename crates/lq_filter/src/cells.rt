@@ -1,5 +1,6 @@
-ghost use Rattle.std.specs.Prelude.{◌≡◌, IfOk, IfSome};
-ghost use Rattle.lq_schema.specs.Value.{Number, Value, Words, shown};
+ghost use Rattle.std.specs.Prelude.{◌≡◌, ℕ, IfOk, IfSome, List, bytes_eq};
+ghost use Rattle.std.specs.List.{list_any};
+ghost use Rattle.lq_schema.specs.Value.{Number, Texts, Value, Words, shown};
 ghost use Rattle.lq_schema.specs.declared.columns.Col.{Col};
 
 use lq_records::Memory;
@@ -26,4 +27,14 @@ pub trait Cells {
     /// The text in a column, where it is borrowed as it stands. It may be None for any column.
     fn text(&self, c: Col) -> Option<&str>
         ensures { IfSome result (λ text. cell self.now c ≡ Words text.now) };
+
+    /// Whether the list of texts in a column has an element, where that is found without memory. It
+    /// may be None for any column.
+    fn contains(&self, c: Col, text: &str) -> Option<bool>
+        ensures { IfSome result (λ found. (texts : List (List ℕ))
+            × (cell self.now c ≡ Texts texts)
+            × (found ≡ list_any (λ element. bytes_eq element text.now) texts)) }
+    {
+        None
+    }
 }

@@ -1,4 +1,4 @@
-ghost use Rattle.std.specs.Prelude.{◌≡◌, All, IfOk};
+ghost use Rattle.std.specs.Prelude.{◌≡◌, [], All, IfOk};
 ghost use Rattle.lq_filter.specs.Linked.{AreLinked, headers_of};
 ghost use Rattle.lq_filter.specs.Prefixes.{AreTrees, Trees, all_hold};
 ghost use Rattle.lq_filter.specs.Trees.{HasColumn, holds, truth_on};
@@ -34,6 +34,15 @@ impl Filter {
         ensures { result ≡ headers_of nodes.items }
     {
         Filter { nodes }
+    }
+
+    /// The filter without a header, which chooses each row. It takes no memory.
+    pub fn everything(alloc: Global) -> Self
+        ensures { result ≡ [] }
+    {
+        Filter {
+            nodes: Vec::new(alloc),
+        }
     }
 
     /// The filter with the matchers of its patterns: what serves where many rows are tested. The

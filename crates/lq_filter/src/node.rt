@@ -18,6 +18,18 @@ impl Model for Node {
 
 impl Node {
     ghost use Rattle.std.specs.Prelude.{◌≡◌};
+    ghost use Rattle.lq_filter.specs.Trees.{has_pattern};
+
+    /// Whether the header is a test that looks for a pattern.
+    pub(crate) fn has_pattern(&self) -> bool
+        ensures { result ≡ has_pattern self.now.header }
+    {
+        match &self.header {
+            Header::Test(test) => test.has_pattern(),
+            Header::Join(_) => false,
+            Header::Negate => false,
+        }
+    }
 
     /// How many headers the tree has.
     pub(crate) fn size(&self) -> usize

@@ -1,5 +1,6 @@
 ghost use Rattle.std.specs.Prelude.{◌≡◌};
 ghost use Rattle.lq_filter.specs.Reading.{Gives, containment, emptiness, kind_check, list_check, nocase_comparison, number_check, number_comparison, pattern_match, test_read, text_check, text_comparison};
+ghost use Rattle.lq_filter.specs.Tests.{asks_for_pattern};
 
 use crate::check::{Check, Comparison, Property};
 use crate::operator::Operator;
@@ -62,6 +63,13 @@ impl Test {
             Ok(check) => Ok(Test { column: c, check }),
             Err(error) => Err(error),
         }
+    }
+
+    /// Whether the test looks for a pattern.
+    pub fn has_pattern(&self) -> bool
+        ensures { result ≡ asks_for_pattern self.now.check.property }
+    {
+        matches!(&self.check.property, Property::Matches(_))
     }
 }
 

@@ -1,28 +1,20 @@
-ghost use Rattle.std.specs.Prelude.{◌≡◌, ◌∷◌, [], ◌<◌, ◌≤◌, All, IfOk, length, map, take};
+ghost use Rattle.std.specs.Prelude.{◌≡◌, ◌∷◌, [], ◌<◌, ◌≤◌, All, IfOk, OnOk, length, map, take};
 ghost use Rattle.lq_filter.specs.Linked.{AreLinked, headers_of, truths_before};
-ghost use Rattle.lq_filter.specs.ReadyHeaders.{header_of, test_of};
+ghost use Rattle.lq_filter.specs.Marks.{AreKept};
+ghost use Rattle.lq_filter.specs.ReadyHeaders.{header_of};
 ghost use Rattle.lq_filter.specs.Trees.{HasColumn, holds, is_negation, join_of, joined, truth_on};
 ghost use Rattle.lq_filter.specs.declared.header.Header.TheVariants as header;
 ghost use Rattle.lq_filter.specs.declared.read.Test.{Test};
 
 use crate::cells::Cells;
 use crate::header::{Header, Join};
+use crate::marks::{Block, LastTrees, keep_all};
 use crate::node::Node;
 use crate::read::Test;
-use crate::ready_check::ReadyCheck;
+use crate::ready_test::ReadyTest;
 use lq_records::Memory;
-use lq_schema::Col;
 use std::alloc::Global;
 use std::marker::Model;
-
-/// A test whose check is ready.
-#[derive(Drop)]
-pub struct ReadyTest<'f> {
-    /// The column whose cell is tested.
-    pub column: Col,
-    /// What is asked of the cell's value.
-    pub check: ReadyCheck<'f>,
-}
 
 /// A header whose test is ready.
 #[derive(Drop)]
@@ -37,7 +29,7 @@ pub enum ReadyHeader<'f> {
 
 /// A header made ready, and how many headers the tree that ends with it has.
 #[derive(Drop)]
-struct Step<'f> {
+pub(crate) struct Step<'f> {
     header: ReadyHeader<'f>,
     size: usize,
 }
@@ -72,9 +64,9 @@ impl<'f> Model for ReadyFilter<'f> {
 
 /// The cells of a row that is tested, and the allocator for what their values take.
 #[derive(Drop)]
-struct Row<'r, C> {
-    alloc: Global,
-    cells: &'r C,
+pub(crate) struct Row<'r, C> {
+    pub(crate) alloc: Global,
+    pub(crate) cells: &'r C,
 }
 
 impl ReadyFilter<'_> {
@@ -91,17 +83,20 @@ impl ReadyFilter<'_> {
         joined_at(&row, &mut self.steps, count, Join { count, any: false })
     }
 
-    /// Which of the rows are chosen, row by row. The only error is out of memory.
+    /// Which of the rows are chosen. Each test goes over all rows that the tests before it left
+    /// open, so many rows are best given in blocks of some hundreds, which stay in the processor's
+    /// cache. The only error is out of memory.
     pub fn marks<C: Cells>(&mut self, alloc: Global, rows: &[C]) -> Result<Vec<bool>, Memory>
         requires { All (λ row. All (HasColumn (C.has row)) self.old) rows.now }
         ensures marks { IfOk result (λ marks.
             marks.items ≡ map (λ row. holds (truth_on (C.cell row)) self.old) rows.now) }
         ensures same { self.new ≡ self.old }
     {
-        let mut marks = Vec::with_capacity(alloc, rows.len())?;
-        for row in rows {
-            marks.push(self.holds(alloc, row)?)?;
-        }
+        let mut marks = vec![in alloc; true; rows.len()]?;
+        let block = Block { alloc, rows };
+        let count = self.steps.len();
+        let trees = LastTrees { end: count, count };
+        keep_all(&block, &mut self.steps, trees, &mut marks)?;
         Ok(marks)
     }
 }
@@ -199,14 +194,14 @@ fn truth_at<C: Cells>(
 }
 
 impl Step<'_> {
-    fn size(&self) -> usize
+    pub(crate) fn size(&self) -> usize
         ensures { result ≡ self.now.size }
     {
         self.size
     }
 
     /// How the header joins trees, where it does.
-    fn join(&self) -> Option<Join>
+    pub(crate) fn join(&self) -> Option<Join>
         ensures { result ≡ join_of self.now.header }
     {
         match &self.header {
@@ -215,7 +210,7 @@ impl Step<'_> {
         }
     }
 
-    fn is_negation(&self) -> bool
+    pub(crate) fn is_negation(&self) -> bool
         ensures { result ≡ is_negation self.now.header }
     {
         matches!(&self.header, ReadyHeader::Negate)
@@ -233,25 +228,22 @@ impl Step<'_> {
             _ => Ok(false),
         }
     }
-}
 
-impl ReadyTest<'_> {
-    /// Whether a row meets the test. Where a number or a text stands in the cell as it is, no value
-    /// is made of it.
-    fn is_met<C: Cells>(&mut self, row: &Row<'_, C>) -> Result<bool, Memory>
-        requires { C.has row.now.cells.now self.old.column }
-        ensures met { IfOk result
-            (λ met. met ≡ truth_on (C.cell row.now.cells.now) (test_of self.old)) }
-        ensures same { test_of self.new ≡ test_of self.old }
+    /// Keeps the marks of the rows that meet the header's test.
+    pub(crate) fn keep_met<C: Cells>(
+        &mut self,
+        block: &Block<'_, C>,
+        marks: &mut [bool],
+    ) -> Result<(), Memory>
+        requires columns { All (λ row. HasColumn (C.has row) self.old.header) block.now.rows.now }
+        requires marked { length marks.old ≡ length block.now.rows.now }
+        ensures kept { (test : Test) → self.old.header ≡ header.Test test → OnOk result
+            (AreKept (λ row. truth_on (C.cell row) test) block.now.rows.now marks.old marks.new) }
+        ensures same { self.new ≡ self.old }
     {
-        if self.check.is_of_number() {
-            if let Some(number) = row.cells.number(self.column) {
-                return Ok(self.check.is_met_by_number(number));
-            }
-        } else if let Some(text) = row.cells.text(self.column) {
-            return Ok(self.check.is_met_by_text(text));
+        match &mut self.header {
+            ReadyHeader::Test(test) => test.keep_met(block, marks),
+            _ => Ok(()),
         }
-        let value = row.cells.get(row.alloc, self.column)?;
-        self.check.is_met(row.alloc, &value)
     }
 }

@@ -1,10 +1,13 @@
-ghost use Rattle.std.specs.Prelude.{◌≡◌, IfOk, map};
+ghost use Rattle.std.specs.Prelude.{◌≡◌, ℕ, IfOk, IfSome, List, map};
 ghost use Rattle.std.specs.Fmt.{decimal};
 ghost use Rattle.std.specs.List.{list_any};
+ghost use Rattle.std.specs.Option.{IsSome};
 ghost use Rattle.lq_schema.specs.Value.{Number, Words, shown};
 ghost use Rattle.lq_filter.specs.Patterns.{is_found};
 ghost use Rattle.lq_filter.specs.Ready.{property_of};
 ghost use Rattle.lq_filter.specs.Tests.{has_property, is_met, is_of_number, list_has, negated_if, number_has, pair_text, text_has};
+ghost use Rattle.lq_filter.specs.declared.check.Comparison.TheVariants as by;
+ghost use Rattle.lq_filter.specs.declared.check.Property.TheVariants.{Compares};
 
 use crate::check::{Check, Comparison, Property};
 use crate::pattern::ReadyPattern;
@@ -63,7 +66,7 @@ impl Property {
     }
 }
 
-impl ReadyCheck<'_> {
+impl<'c> ReadyCheck<'c> {
     /// Whether a value is as the check asks. The only error is out of memory, which a list of
     /// numbers or of services may want.
     pub fn is_met(&mut self, alloc: Global, value: &Val<'_>) -> Result<bool, Memory>
@@ -85,12 +88,34 @@ impl ReadyCheck<'_> {
         )
     }
 
+    /// The text that a list is asked to have as an element, None for any other check.
+    #[inline]
+    pub fn element(&self) -> Option<&'c str>
+        ensures asked { IfSome result
+            (λ element. self.now.property ≡ Compares (by.Contains element.now)) }
+        ensures given { (element : List ℕ) → self.now.property ≡ Compares (by.Contains element)
+            → IsSome result }
+    {
+        match &self.property {
+            ReadyProperty::Compares(Comparison::Contains(element)) => Some(element.as_str()),
+            _ => None,
+        }
+    }
+
     /// Whether a number is as the check asks.
     #[inline]
     pub fn is_met_by_number(&self, number: i128) -> bool
         ensures { result ≡ is_met self.now (Number number) }
     {
         self.property.holds_for_number(number) != self.negated
+    }
+
+    /// Whether a list is as the check asks, by whether it has the element that is asked for.
+    #[inline]
+    pub fn is_met_by_found(&self, found: bool) -> bool
+        ensures { result ≡ negated_if self.now.negated found }
+    {
+        found != self.negated
     }
 
     /// Whether a text is as the check asks.

@@ -1,7 +1,7 @@
-ghost use Rattle.std.specs.Prelude.{◌≡◌, ◌⊎◌, Bool, ◌+◌, ◌-◌, ◌^◌, ◌<◌, ◌≤◌, ◌++◌, ◌∷◌, [], drop, length, IsOkAnd, OnErr, OnOk};
+ghost use Rattle.std.specs.Prelude.{◌≡◌, ◌⊎◌, Bool, ◌+◌, ◌-◌, ◌^◌, ◌<◌, ◌≤◌, ◌++◌, ◌∷◌, [], drop, filter, length, IsOkAnd, OnErr, OnOk};
 ghost use Rattle.lq_filter.specs.Linked.{AreLinked, headers_of, truths_before};
 ghost use Rattle.lq_filter.specs.Prefixes.{AreTrees, Trees};
-ghost use Rattle.lq_filter.specs.Trees.{height};
+ghost use Rattle.lq_filter.specs.Trees.{has_pattern, height, pattern_count};
 ghost use Rattle.lq_filter.specs.declared.header.Header.TheVariants as header;
 ghost use Rattle.lq_filter.specs.declared.read.Test.{Test};
 
@@ -113,6 +113,13 @@ impl Stack {
         Ok(())
     }
 
+    /// How many patterns its tests look for.
+    pub fn pattern_count(&self) -> usize
+        ensures { result ≡ pattern_count self.now }
+    {
+        patterns_of(&self.nodes)
+    }
+
     /// The filter whose headers these are. It takes no memory, and there is no error.
     pub fn finish(self) -> Result<Filter, Memory>
         ensures same { IsOkAnd result (λ filter. filter ≡ self) }
@@ -121,6 +128,13 @@ impl Stack {
     {
         Ok(Filter::new(self.nodes))
     }
+}
+
+/// How many patterns the tests look for.
+fn patterns_of(nodes: &[Node]) -> usize
+    ensures { result ≡ length (filter (λ node. has_pattern node.header) nodes.now) }
+{
+    nodes.iter().filter(|node| node.has_pattern()).count()
 }
 
 /// Adds a header behind the others, with the size of its tree.

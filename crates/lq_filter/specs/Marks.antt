@@ -1,0 +1,9 @@
+-- Marks of rows: which of them are still in question while tests are made one after the other.
+use Rattle.std.specs.Prelude.{◌≡◌, ◌&&◌, ◌<◌, ℕ, Bool, false, List, length, slice_index_or}
+
+-- a row keeps its mark where it is chosen, and no other row is marked
+pub record AreKept {R : Type 0} (chosen : R → Bool) (rows : List R) (old new : List Bool)
+    : Type 0 where
+  pub each : (place : ℕ) (row : R) → place < length rows →
+      slice_index_or new place false
+      ≡ (slice_index_or old place false && chosen (slice_index_or rows place row))
