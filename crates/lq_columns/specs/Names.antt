@@ -1,5 +1,5 @@
 -- The names that an object goes with. An id that names nothing drops out of a list.
-use Rattle.std.specs.Prelude.{ℕ, ◌==◌, Bool, Option, Some, None, List, [], ◌∷◌, ◌++◌, nat_eq, map, drop, if◌then◌else◌}
+use Rattle.std.specs.Prelude.{ℕ, ◌==◌, Bool, false, Option, Some, None, List, [], ◌∷◌, ◌++◌, bytes_eq, nat_eq, map, drop, if◌then◌else◌}
 use Rattle.std.specs.List.{filter_map, flat_map, list_any, slice_get, starts_with}
 use Rattle.std.specs.Option.{option_map, option_map_or}
 use Rattle.lq_records.specs.declared.base.Base.{Base}
@@ -37,6 +37,16 @@ name_of_contact_group base id =
 
 abbrev pub contact_group_names_of : Base → List ContactGroupId → List (List ℕ)
 contact_group_names_of base ids = filter_map (name_of_contact_group base) ids
+
+-- ---- names that are looked for
+
+-- whether a list of texts has one
+abbrev pub has_text : List ℕ → List (List ℕ) → Bool
+has_text text texts = list_any (λ element. bytes_eq element text) texts
+
+-- whether there is a name, and it is this one
+abbrev pub is_named : List ℕ → Option (List ℕ) → Bool
+is_named text name = option_map_or (λ own. bytes_eq own text) name false
 
 -- ---- contacts
 

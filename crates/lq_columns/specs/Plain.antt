@@ -1,8 +1,11 @@
--- Columns whose values take no memory, and those whose values stand in the state as they are.
+-- Columns whose values take no memory, those whose values stand in the state as they are, and those
+-- whose lists are searched without a copy.
 use Rattle.lq_schema.specs.declared.columns.ColKind.{ColKind}
 use Rattle.lq_schema.specs.declared.columns.ColKind.TheVariants as kind
 use Rattle.lq_schema.specs.declared.host.HostColumn.{HostColumn}
 use Rattle.lq_schema.specs.declared.host.HostColumn.TheVariants as host
+use Rattle.lq_schema.specs.declared.object.ObjectColumn.{ObjectColumn}
+use Rattle.lq_schema.specs.declared.object.ObjectColumn.TheVariants as object
 use Rattle.lq_schema.specs.declared.service.ServiceColumn.{ServiceColumn}
 use Rattle.lq_schema.specs.declared.service.ServiceColumn.TheVariants as service
 use Rattle.lq_schema.specs.declared.status.StatusColumn.{StatusColumn}
@@ -46,3 +49,19 @@ IsHeldByHost column = Unit {0}
 abbrev pub IsHeldByService : ServiceColumn → Type 0
 IsHeldByService (service.Status column) = IsHeldByStatus column
 IsHeldByService column = Unit {0}
+
+-- ---- columns whose lists are searched where their texts stand
+
+-- the contacts and the contact groups
+abbrev pub IsSearched : ObjectColumn → Type 0
+IsSearched object.Contacts = Unit {0}
+IsSearched object.ContactGroups = Unit {0}
+IsSearched column = ⊥
+
+abbrev pub IsSearchedAtHost : HostColumn → Type 0
+IsSearchedAtHost (host.Object column) = IsSearched column
+IsSearchedAtHost column = ⊥
+
+abbrev pub IsSearchedAtService : ServiceColumn → Type 0
+IsSearchedAtService (service.Object column) = IsSearched column
+IsSearchedAtService column = ⊥

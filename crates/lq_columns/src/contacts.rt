@@ -1,7 +1,9 @@
 ghost use Rattle.std.specs.Prelude.{◌≡◌, ◌++◌, [], IfOk, OnOk, flat_map};
+ghost use Rattle.std.specs.List.{list_any};
 ghost use Rattle.lq_columns.specs.Distinct.{stands_in, with_new, with_one};
-ghost use Rattle.lq_columns.specs.Names.{contacts_of, members_of};
+ghost use Rattle.lq_columns.specs.Names.{contact_names_of, contacts_of, has_text, members_of};
 
+use crate::names::has_name;
 use lq_records::{Base, ContactGroupId, ContactId, Memory, ObjectFields};
 use std::alloc::Global;
 
@@ -18,6 +20,27 @@ pub(crate) fn contacts_of(
     add_new(&mut found, fields.contacts.as_slice())?;
     add_members(&mut found, base, fields.contact_groups.as_slice())?;
     Ok(found)
+}
+
+/// Whether a contact at the object itself, or a member of one of its contact groups, has a name.
+#[tactic(auto, using(crate::proofs::Found::contact_found))]
+pub(crate) fn has_contact(base: &Base, fields: &ObjectFields, name: &str) -> bool
+    ensures { result
+        ≡ has_text name.now (contact_names_of base.now (contacts_of base.now fields.now)) }
+{
+    has_name(base, fields.contacts.as_slice(), name)
+        || has_member(base, fields.contact_groups.as_slice(), name)
+}
+
+/// Whether a member of one of the contact groups has a name.
+fn has_member(base: &Base, groups: &[ContactGroupId], name: &str) -> bool
+    ensures { result ≡ list_any
+        (λ group. has_text name.now (contact_names_of base.now (members_of base.now group)))
+        groups.now }
+{
+    groups
+        .iter()
+        .any(|group| has_name(base, members_of(base, *group), name))
 }
 
 /// Adds the members of contact groups, as far as they aren't there.

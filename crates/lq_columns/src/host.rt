@@ -1,21 +1,22 @@
-ghost use Rattle.std.specs.Prelude.{◌≡◌, IfOk, IsOk};
+ghost use Rattle.std.specs.Prelude.{◌≡◌, ℕ, IfOk, IsOk, List};
 ghost use Rattle.std.specs.Option.{IfSome, IsSome, option_map};
 ghost use Rattle.lq_live.specs.State.{State};
 ghost use Rattle.lq_schema.specs.Kinds.{host_kind, own_kind};
-ghost use Rattle.lq_schema.specs.Value.{Number, Words, shown};
+ghost use Rattle.lq_schema.specs.Value.{Number, Texts, Words, shown};
 ghost use Rattle.lq_columns.specs.Cells.{host_at, host_cell, host_record, host_value};
-ghost use Rattle.lq_columns.specs.Plain.{IsHeldByHost, IsNumber, IsPlain, IsText};
+ghost use Rattle.lq_columns.specs.Names.{has_text};
+ghost use Rattle.lq_columns.specs.Plain.{IsHeldByHost, IsNumber, IsPlain, IsSearchedAtHost, IsText};
 
 use crate::counters::services_value;
 use crate::empty::empty_value;
 use crate::monitored::Monitored;
 use crate::names::{child_names, descriptions, names_of};
-use crate::object::{object_number, object_text};
+use crate::object::{object_contains, object_number, object_text};
 use crate::scope::Scope;
 use crate::status::{status_number, status_text};
 use lq_events::Status;
 use lq_live::Live;
-use lq_records::{Host, HostId, Memory, Object};
+use lq_records::{Base, Host, HostId, Memory, Object};
 use lq_schema::{Col, HostColumn, OwnColumn, Val, kind};
 use std::alloc::Global;
 
@@ -72,6 +73,22 @@ impl<'a> HostRow<'a> {
             HostColumn::Address => Some(self.host.address.as_str()),
             HostColumn::Object(column) => object_text(&self.host.fields, column),
             HostColumn::Status(column) => status_text(self.status, column),
+            _ => None,
+        }
+    }
+
+    /// Whether the list in a column has a text, by the base that the host is of; None for a column
+    /// other than the contacts and the contact groups. It takes no memory.
+    #[inline]
+    pub fn contains(&self, base: &Base, column: HostColumn, text: &str) -> Option<bool>
+        ensures value { (s : State) → s.base ≡ base.now
+            → IfSome result (λ found. (texts : List (List ℕ))
+            × (host_cell s (host_record self.now) column ≡ Texts texts)
+            × (found ≡ has_text text.now texts)) }
+        ensures given { IsSearchedAtHost column → IsSome result }
+    {
+        match column {
+            HostColumn::Object(column) => object_contains(base, &self.host.fields, column, text),
             _ => None,
         }
     }

@@ -1,7 +1,7 @@
 ghost use Rattle.std.specs.Prelude.{◌≡◌, ◌++◌, ℕ, IfOk, List, OnOk, Option, filter_map, map, option_to_list};
 ghost use Rattle.lq_records.specs.declared.base.Base.{Base};
 ghost use Rattle.std.specs.Option.{option_copied};
-ghost use Rattle.lq_columns.specs.Names.{child_names_of, description_on, descriptions_of, group_names_of, has_host, has_service, name_below, name_of_contact, name_of_contact_group, name_of_host, name_with_host, name_with_service, variable_names_of, variable_values_of, without_underscore};
+ghost use Rattle.lq_columns.specs.Names.{child_names_of, description_on, descriptions_of, group_names_of, has_host, has_service, has_text, is_named, name_below, name_of_contact, name_of_contact_group, name_of_host, name_with_host, name_with_service, variable_names_of, variable_values_of, without_underscore};
 
 use lq_records::{
     Base, ContactGroupId, ContactId, Host, HostGroup, HostId, Items, Memory, Object, ObjectFields,
@@ -63,6 +63,22 @@ pub fn names_of<I: Named>(alloc: Global, base: &Base, ids: &[I]) -> Result<Items
         push_name(&mut names, id.name(base))?;
     }
     Ok(names)
+}
+
+/// Whether one of some objects has a name.
+pub(crate) fn has_name<I: Named>(base: &Base, ids: &[I], name: &str) -> bool
+    ensures { result ≡ has_text name.now (filter_map (I.name_of base.now) ids.now) }
+{
+    ids.iter().any(|id| is_named(base, *id, name))
+}
+
+fn is_named<I: Named>(base: &Base, id: I, name: &str) -> bool
+    ensures { result ≡ is_named name.now (I.name_of base.now id) }
+{
+    match id.name(base) {
+        Some(own) => own.as_str() == name,
+        None => false,
+    }
 }
 
 /// Adds a name, where there is one. The text is shared.

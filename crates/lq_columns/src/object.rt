@@ -1,16 +1,16 @@
-ghost use Rattle.std.specs.Prelude.{◌≡◌, IfOk, IsOk};
+ghost use Rattle.std.specs.Prelude.{◌≡◌, ℕ, IfOk, IsOk, List};
 ghost use Rattle.std.specs.Option.{IfSome, IsSome};
 ghost use Rattle.lq_schema.specs.Kinds.{object_kind};
-ghost use Rattle.lq_schema.specs.Value.{Number, Words, shown};
+ghost use Rattle.lq_schema.specs.Value.{Number, Texts, Words, shown};
 ghost use Rattle.lq_columns.specs.Cells.{object_cell};
-ghost use Rattle.lq_columns.specs.Names.{contact_names_of, contacts_of};
-ghost use Rattle.lq_columns.specs.Plain.{IsNumber, IsPlain, IsText};
+ghost use Rattle.lq_columns.specs.Names.{contact_names_of, contacts_of, has_text};
+ghost use Rattle.lq_columns.specs.Plain.{IsNumber, IsPlain, IsSearched, IsText};
 ghost use Rattle.lq_records.specs.declared.base.Base.{Base};
 ghost use Rattle.lq_records.specs.declared.object.Object.{Object};
 
-use crate::contacts::contacts_of;
+use crate::contacts::{contacts_of, has_contact};
 use crate::monitored::Monitored;
-use crate::names::{group_names, names_of, variable_names, variable_values};
+use crate::names::{group_names, has_name, names_of, variable_names, variable_values};
 use lq_records::{Base, Items, Memory, ObjectFields, Text};
 use lq_schema::{ObjectColumn, Val};
 use std::alloc::Global;
@@ -46,6 +46,29 @@ pub(crate) fn object_text(fields: &ObjectFields, column: ObjectColumn) -> Option
         ObjectColumn::IconImage => fields.icon_image.as_str(),
         _ => return None,
     })
+}
+
+/// Whether the list in a column that the object file says of a host or a service has a text; None
+/// for a column other than the contacts and the contact groups.
+#[inline]
+pub(crate) fn object_contains(
+    base: &Base,
+    fields: &ObjectFields,
+    column: ObjectColumn,
+    text: &str,
+) -> Option<bool>
+    ensures value { (about : Object) → IfSome result (λ found. (texts : List (List ℕ))
+        × (object_cell base.now about fields.now column ≡ Texts texts)
+        × (found ≡ has_text text.now texts)) }
+    ensures given { IsSearched column → IsSome result }
+{
+    match column {
+        ObjectColumn::Contacts => Some(has_contact(base, fields, text)),
+        ObjectColumn::ContactGroups => {
+            Some(has_name(base, fields.contact_groups.as_slice(), text))
+        }
+        _ => None,
+    }
 }
 
 impl<'a> Monitored<'a> {

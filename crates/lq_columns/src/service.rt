@@ -1,18 +1,19 @@
-ghost use Rattle.std.specs.Prelude.{◌≡◌, IfOk, IsOk};
+ghost use Rattle.std.specs.Prelude.{◌≡◌, ℕ, IfOk, IsOk, List};
 ghost use Rattle.std.specs.Option.{IfSome, IsSome, option_map};
 ghost use Rattle.lq_live.specs.State.{State};
 ghost use Rattle.lq_schema.specs.Kinds.{service_kind, own_kind};
-ghost use Rattle.lq_schema.specs.Value.{Number, Words, shown};
+ghost use Rattle.lq_schema.specs.Value.{Number, Texts, Words, shown};
 ghost use Rattle.lq_columns.specs.Cells.{service_at, service_cell, service_record, service_value};
-ghost use Rattle.lq_columns.specs.Plain.{IsHeldByService, IsNumber, IsPlain, IsText};
+ghost use Rattle.lq_columns.specs.Names.{has_text};
+ghost use Rattle.lq_columns.specs.Plain.{IsHeldByService, IsNumber, IsPlain, IsSearchedAtService, IsText};
 
 use crate::empty::empty_value;
 use crate::monitored::Monitored;
-use crate::object::{object_number, object_text};
+use crate::object::{object_contains, object_number, object_text};
 use crate::status::{status_number, status_text};
 use lq_events::Status;
 use lq_live::Live;
-use lq_records::{Memory, Object, Service, ServiceId};
+use lq_records::{Base, Memory, Object, Service, ServiceId};
 use lq_schema::{Col, OwnColumn, ServiceColumn, Val, kind};
 use std::alloc::Global;
 
@@ -67,6 +68,24 @@ impl<'a> ServiceRow<'a> {
             ServiceColumn::Description => Some(self.service.service_description.as_str()),
             ServiceColumn::Object(column) => object_text(&self.service.fields, column),
             ServiceColumn::Status(column) => status_text(self.status, column),
+        }
+    }
+
+    /// Whether the list in a column has a text, by the base that the service is of; None for a
+    /// column other than the contacts and the contact groups. It takes no memory.
+    #[inline]
+    pub fn contains(&self, base: &Base, column: ServiceColumn, text: &str) -> Option<bool>
+        ensures value { (s : State) → s.base ≡ base.now
+            → IfSome result (λ found. (texts : List (List ℕ))
+            × (service_cell s (service_record self.now) column ≡ Texts texts)
+            × (found ≡ has_text text.now texts)) }
+        ensures given { IsSearchedAtService column → IsSome result }
+    {
+        match column {
+            ServiceColumn::Object(column) => {
+                object_contains(base, &self.service.fields, column, text)
+            }
+            ServiceColumn::Description | ServiceColumn::Status(_) => None,
         }
     }
 

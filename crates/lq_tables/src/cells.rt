@@ -1,8 +1,9 @@
-ghost use Rattle.std.specs.Prelude.{◌≡◌, IfOk, IsOk};
+ghost use Rattle.std.specs.Prelude.{◌≡◌, ℕ, IfOk, IsOk, List};
 ghost use Rattle.std.specs.Option.{IfSome, IsSome};
+ghost use Rattle.lq_columns.specs.Names.{has_text};
 ghost use Rattle.lq_columns.specs.Plain.{IsNumber, IsText};
 ghost use Rattle.lq_schema.specs.Kinds.{own_kind};
-ghost use Rattle.lq_schema.specs.Value.{Number, Words, shown};
+ghost use Rattle.lq_schema.specs.Value.{Number, Texts, Words, shown};
 ghost use Rattle.lq_tables.specs.Cells.{cell_of};
 ghost use Rattle.lq_tables.specs.Light.{IsHeld, IsLight};
 
@@ -177,6 +178,54 @@ impl<'a> RowCells<'a> {
             OwnColumn::Program(column) => Ok(program_value(alloc, live, row, column)),
             OwnColumn::Schema(column) => schema_value(alloc, row_entry(row), column),
         }
+    }
+}
+
+/// The number of one cell of a row, as `number` of `RowCells` gives it. Where few cells of a row are
+/// looked at it takes less: it finds alone what the column is about.
+#[inline]
+pub fn row_number(live: &Live, row: Row, c: Col) -> Option<i128>
+    ensures { IfSome result (λ number. cell_of live.now.state row c ≡ Number number) }
+{
+    match c.own {
+        OwnColumn::Host(column) => host_of(live, row_object(live, row))?.number(column),
+        OwnColumn::Service(column) => service_of(live, row_object(live, row))?.number(column),
+        OwnColumn::Downtime(column) => downtime_number(row_downtime(live, row), column),
+        OwnColumn::Comment(column) => comment_number(row_comment(live, row), column),
+        _ => None,
+    }
+}
+
+/// The text of one cell of a row, as `text` of `RowCells` gives it for a host, a service, a
+/// downtime or a comment; None where the column is about something else.
+#[inline]
+pub fn row_text(live: &Live, row: Row, c: Col) -> Option<&str>
+    ensures { IfSome result (λ text. cell_of live.now.state row c ≡ Words text.now) }
+{
+    match c.own {
+        OwnColumn::Host(column) => host_of(live, row_object(live, row))?.text(column),
+        OwnColumn::Service(column) => service_of(live, row_object(live, row))?.text(column),
+        OwnColumn::Downtime(column) => downtime_text(row_downtime(live, row), column),
+        OwnColumn::Comment(column) => comment_text(row_comment(live, row), column),
+        _ => None,
+    }
+}
+
+/// Whether the list in one cell of a row has a text, for the contacts and the contact groups of a
+/// host or a service; None for any other cell, and where the row is about no such object. It takes
+/// no memory.
+#[inline]
+pub fn row_contains(live: &Live, row: Row, c: Col, text: &str) -> Option<bool>
+    ensures { IfSome result (λ found. (texts : List (List ℕ))
+        × (cell_of live.now.state row c ≡ Texts texts)
+        × (found ≡ has_text text.now texts)) }
+{
+    let object = row_object(live, row);
+    let base = live.base();
+    match c.own {
+        OwnColumn::Host(column) => host_of(live, object)?.contains(base, column, text),
+        OwnColumn::Service(column) => service_of(live, object)?.contains(base, column, text),
+        _ => None,
     }
 }
 

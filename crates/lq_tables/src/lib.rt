@@ -14,6 +14,6 @@ mod row;
 mod schema;
 mod value;
 
-pub use cells::{RowCells, cell};
+pub use cells::{RowCells, cell, row_contains, row_number, row_text};
 pub use listing::{Rows, rows};
 pub use row::Row;

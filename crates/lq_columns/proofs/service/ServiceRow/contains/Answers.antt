@@ -1,0 +1,8 @@
+use Rattle.lq_records.specs.declared.object.Object.TheVariants as object
+use Rattle.lq_columns.proofs.service.ServiceRow.contains.Goals as goal
+
+pub returns-in-Object : goal.returns-in-Object
+returns-in-Object c = record {
+  value = λ s same. rw c.in-Object.is (rw (← same) at c.object_contains.ensures.value (object.Service c.args.self.now.id));
+  given = rw c.in-Object.is c.object_contains.ensures.given;
+}
