@@ -22,6 +22,8 @@ enum Read<'a> {
     Cut,
     /// A message that asks the column `state` of hosts many times.
     Columns(&'a Base, &'a str),
+    /// A message with many filters that become one, and how many rows it shows at most.
+    Filters(&'a Base, &'a str, u64),
     /// A message that asks a table that isn't there, and the table's name.
     Refused(&'a Base, &'a str, &'a str),
 }
@@ -33,6 +35,9 @@ impl Call for Read<'_> {
             Read::Comment(base, line, text) => is_comment(alloc, base, line.as_bytes(), text),
             Read::Cut => Ok(Cut::new(alloc)?.room() == 65_537),
             Read::Columns(base, message) => is_asked(alloc, base, message.as_bytes()),
+            Read::Filters(base, message, most) => {
+                is_limited(alloc, base, message.as_bytes(), most)
+            },
             Read::Refused(base, message, name) => {
                 is_refused(alloc, base, message.as_bytes(), name)
             },
@@ -111,6 +116,15 @@ fn is_asked(alloc: Global, base: &Base, message: &[u8]) -> Result<bool, AllocErr
     }
 }
 
+/// Whether a message is read, with the most rows that it shows.
+fn is_limited(alloc: Global, base: &Base, message: &[u8], most: u64) -> Result<bool, AllocError> {
+    match read_request(alloc, message, base) {
+        Ok(request) => Ok(request.limit == Some(most)),
+        Err(ReadErr::Memory) => Err(AllocError),
+        Err(ReadErr::Refused { .. }) => Ok(false),
+    }
+}
+
 fn is_refused(alloc: Global, base: &Base, message: &[u8], name: &str) -> Result<bool, AllocError> {
     match read_request(alloc, message, base) {
         Ok(_) => Ok(false),
@@ -140,9 +154,20 @@ fn assert_messages<R: Abort + AllocGlobal>(rt: &R, base: &Base) -> Result<(), Fa
     assert_late(rt, "read_request of a long name", 14, &mut call)
 }
 
+/// Reads a message of 200 filters, each with a text of 250 bytes.
+fn assert_filters<R: Abort + AllocGlobal>(rt: &R, base: &Base) -> Result<(), Fail> {
+    let text = "0123456789".repeat(rt.alloc(), 25)?;
+    let filter = format!(in rt.alloc(); "\nFilter: name = {}", text.as_str())?;
+    let filters = filter.repeat(rt.alloc(), 200)?;
+    let message = format!(in rt.alloc(); "GET hosts{}\nOr: 200\nLimit: 7", filters.as_str())?;
+    let mut call = Read::Filters(base, message.as_str(), 7);
+    assert_late(rt, "read_request of filters", 12, &mut call)
+}
+
 #[test]
-fn a_message_wants_memory_for_its_columns(rt: HostRuntime) -> Result<(), Fail> {
+fn a_message_wants_memory_for_its_columns_and_filters(rt: HostRuntime) -> Result<(), Fail> {
     assert_late(&rt, "Cut::new", 16, &mut Read::Cut)?;
     let base = base_of(rt.alloc(), SMALL)?.ok_or("the object file is refused")?;
-    assert_messages(&rt, &base)
+    assert_messages(&rt, &base)?;
+    assert_filters(&rt, &base)
 }

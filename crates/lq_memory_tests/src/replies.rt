@@ -135,14 +135,23 @@ fn cells_want_memory_for_their_last_items(rt: HostRuntime) -> Result<(), Fail> {
     assert_cells(&rt, &live)
 }
 
-/// A line for each host, which was never checked.
-fn lines_of_hosts(alloc: Global) -> Result<String, AllocError> {
+/// A line for each host, which was never checked; without `all` for those alone whose number
+/// doesn't end with 0.
+fn lines_of_hosts(alloc: Global, all: bool) -> Result<String, AllocError> {
     let mut lines = String::new(alloc);
     for number in 0..COUNT {
-        let line = format!(in alloc; "h{number};0;0;;\n")?;
-        lines.push_str(line.as_str())?;
+        if all || number % 10 != 0 {
+            let line = format!(in alloc; "h{number};0;0;;\n")?;
+            lines.push_str(line.as_str())?;
+        }
     }
     Ok(lines)
+}
+
+/// A query of one row, in which 16 patterns are found.
+fn query_of_patterns(alloc: Global) -> Result<String, AllocError> {
+    let filters = "\nFilter: program_version ~ ^(l|r)qd [0-9]$".repeat(alloc, 16)?;
+    format!(in alloc; "GET status\nColumns: num_hosts{}", filters.as_str())
 }
 
 /// A request is answered by a text.
@@ -159,21 +168,46 @@ impl Call for Answered<'_> {
     }
 }
 
-fn assert_answer<R: Abort + AllocGlobal>(rt: &R, live: &Live) -> Result<(), Fail> {
-    let query = b"GET hosts\nColumns: name state last_check plugin_output comments";
-    let request = request_of(rt.alloc(), live, query)?.ok_or("the query is refused")?;
-    let lines = lines_of_hosts(rt.alloc())?;
+/// A name, in how many pieces of room at least the answer to a query fails, the query, and its
+/// answer.
+type Late<'a> = (&'a str, usize, &'a str, &'a str);
+
+fn assert_answer<R: Abort + AllocGlobal>(
+    rt: &R,
+    live: &Live,
+    (name, pieces, query, text): Late<'_>,
+) -> Result<(), Fail> {
+    let request = request_of(rt.alloc(), live, query.as_bytes())?.ok_or("the query is refused")?;
     let mut call = Answered {
         live,
         request: &request,
-        text: lines.as_str(),
+        text,
     };
-    assert_late(rt, "answer", 6, &mut call)
+    assert_late(rt, name, pieces, &mut call)
+}
+
+const ALL: &str = "GET hosts\nColumns: name state last_check plugin_output comments";
+
+const CHOSEN: &str = "GET hosts\nColumns: name state last_check plugin_output comments
+Filter: name !~ 0$\nFilter: comments =";
+
+fn assert_answers<R: Abort + AllocGlobal>(rt: &R, live: &Live) -> Result<(), Fail> {
+    let all = lines_of_hosts(rt.alloc(), true)?;
+    let chosen = lines_of_hosts(rt.alloc(), false)?;
+    let patterns = query_of_patterns(rt.alloc())?;
+    for case in [
+        ("answer", 6, ALL, all.as_str()),
+        ("answer with a filter", 8, CHOSEN, chosen.as_str()),
+        ("answer with many patterns", 20, patterns.as_str(), "1000\n"),
+    ] {
+        assert_answer(rt, live, case)?;
+    }
+    Ok(())
 }
 
 #[test]
 fn an_answer_wants_memory_for_its_last_lines(rt: HostRuntime) -> Result<(), Fail> {
     let objects = large(rt.alloc())?;
     let live = live_of(rt.alloc(), objects.as_bytes())?;
-    assert_answer(&rt, &live)
+    assert_answers(&rt, &live)
 }

@@ -6,5 +6,6 @@ mod column;
 mod csv;
 mod page;
 mod reply;
+mod selection;
 
 pub use reply::{Reply, answer};

@@ -1,19 +1,24 @@
-ghost use Rattle.std.specs.Prelude.{◌≡◌, ◌++◌, ◌≤◌, length, map, IfOk, OnOk};
+ghost use Rattle.std.specs.Prelude.{◌≡◌, ◌-◌, ◌<◌, ◌++◌, ◌∷◌, [], ◌≤◌, length, map, IfOk, OnOk};
+ghost use Rattle.std.specs.Bool.{OnTrue};
 ghost use Rattle.lq_schema.specs.Names.{full_name};
 ghost use Rattle.lq_tables.specs.Cells.{cell_of};
-ghost use Rattle.lq_tables.specs.Rows.{rows_of};
-ghost use Rattle.lq_query.specs.Answer.{row_line, reply_limit, with_names};
-ghost use Rattle.lq_query.specs.Body.{AddsText, IsBody, line_cell, line_cells};
+ghost use Rattle.lq_query.specs.Answer.{chosen, reply_limit, row_line, with_names};
+ghost use Rattle.lq_query.specs.Body.{AddsText, IsBody, first_rows_text, line_cell, line_cells, marked};
 ghost use Rattle.lq_query.specs.Csv.{cell_text, csv, csv_line};
 
 use crate::column::ShownColumn;
 use crate::csv::{push_number, push_value};
 use crate::reply::REPLY_LIMIT;
+use crate::selection::Selection;
 use lq_live::Live;
 use lq_records::Memory;
-use lq_schema::{Col, ColKind, Table, column_name};
-use lq_tables::{Row, RowCells, rows};
+use lq_schema::{Col, ColKind, column_name};
+use lq_tables::{Row, RowCells};
 use std::alloc::Global;
+
+/// How many rows are tested at once. More would keep those behind the last one that may be shown
+/// from being left alone, and fewer would turn from one test to the next too often.
+const BLOCK: usize = 512;
 
 /// What the body of a reply is written from.
 #[derive(Drop)]
@@ -22,8 +27,6 @@ pub struct Page<'a> {
     pub alloc: Global,
     /// The state that is shown.
     pub live: &'a Live,
-    /// The table whose rows are shown.
-    pub table: Table,
     /// The columns that are shown, in order.
     pub columns: &'a [ShownColumn],
 }
@@ -38,43 +41,114 @@ pub enum Line<'a> {
 }
 
 impl Page<'_> {
-    /// The line of the names, where it is asked for, and the lines of all rows. None where they
-    /// have too many bytes.
-    pub fn body(&self, head: bool) -> Result<Option<Vec<u8>>, Memory>
-        ensures { IfOk result (λ body. IsBody body
-            (csv (with_names head self.now.columns.now
-            (map (row_line self.now.live.now.state self.now.columns.now)
-            (rows_of self.now.live.now.state self.now.table))))) }
+    /// The body with the line of the names, where it is asked for. None where that has too many
+    /// bytes.
+    pub fn names(&self, head: bool) -> Result<Option<Vec<u8>>, Memory>
+        ensures { IfOk result
+            (λ body. IsBody body (csv (with_names head self.now.columns.now []))) }
     {
         let mut body = Vec::new(self.alloc);
         if head && !self.push_line(&mut body, Line::Names)? {
             return Ok(None);
         }
-        let rows = rows(self.alloc, self.live, self.table)?;
-        if !self.push_rows(&mut body, rows.as_slice())? {
-            return Ok(None);
-        }
         Ok(Some(body))
     }
 
-    /// Adds the lines of rows. False where the body is too large with them.
-    pub fn push_rows(&self, body: &mut Vec<u8>, rows: &[Row]) -> Result<bool, Memory>
+    /// Adds the lines of the rows that are shown. False where the body is too large with them. The
+    /// rows are tested block by block, and none after the last one that may be shown.
+    pub fn push_rows(
+        &self,
+        body: &mut Vec<u8>,
+        selection: &mut Selection<'_>,
+        rows: &[Row],
+    ) -> Result<bool, Memory>
         requires { length body.old.items ≤ reply_limit }
         ensures { IfOk result (λ fits. AddsText fits body.old.items body.new.items
-            (csv (map (row_line self.now.live.now.state self.now.columns.now) rows.now))) }
+            (first_rows_text self.now.columns.now selection.old.left
+            (chosen selection.old.filter (map (cell_of self.now.live.now.state) rows.now)))) }
     {
-        for row in rows {
-            if !self.push_row(body, *row)? {
+        let mut at = 0;
+        'blocks: while at < rows.len() && selection.left > 0 {
+            let end = block_end(at, rows.len());
+            if !self.push_block(body, selection, &rows[at..end])? {
+                return Ok(false);
+            }
+            at = end;
+        }
+        Ok(true)
+    }
+
+    /// The same for the rows of a block.
+    fn push_block(
+        &self,
+        body: &mut Vec<u8>,
+        selection: &mut Selection<'_>,
+        rows: &[Row],
+    ) -> Result<bool, Memory>
+        requires { length body.old.items ≤ reply_limit }
+        ensures lines { IfOk result (λ fits. AddsText fits body.old.items body.new.items
+            (first_rows_text self.now.columns.now selection.old.left
+            (chosen selection.old.filter (map (cell_of self.now.live.now.state) rows.now)))) }
+        ensures left { IfOk result (λ fits. OnTrue fits (selection.new.left
+            ≡ selection.old.left - length (chosen selection.old.filter
+            (map (cell_of self.now.live.now.state) rows.now)))) }
+        ensures same { selection.new.filter ≡ selection.old.filter }
+    {
+        let marks = selection.marks(self.alloc, self.live, rows)?;
+        self.push_marked(body, selection, rows, &marks)
+    }
+
+    /// Adds the lines of the rows that are marked, as many as are left to show. False where the
+    /// body is too large with them.
+    fn push_marked(
+        &self,
+        body: &mut Vec<u8>,
+        selection: &mut Selection<'_>,
+        rows: &[Row],
+        marks: &[bool],
+    ) -> Result<bool, Memory>
+        requires small { length body.old.items ≤ reply_limit }
+        requires marks { length marks.now ≡ length rows.now }
+        ensures lines { IfOk result (λ fits. AddsText fits body.old.items body.new.items
+            (first_rows_text self.now.columns.now selection.old.left
+            (map (cell_of self.now.live.now.state) (marked marks.now rows.now)))) }
+        ensures left { IfOk result (λ fits. OnTrue fits (selection.new.left
+            ≡ selection.old.left - length (marked marks.now rows.now))) }
+        ensures same { selection.new.filter ≡ selection.old.filter }
+    {
+        for place in 0..rows.len() {
+            if marks[place] && !self.push_next(body, selection, rows[place])? {
                 return Ok(false);
             }
         }
         Ok(true)
     }
 
+    /// Adds the line of a row where one is left to show. False where the body is too large with it.
+    fn push_next(
+        &self,
+        body: &mut Vec<u8>,
+        selection: &mut Selection<'_>,
+        row: Row,
+    ) -> Result<bool, Memory>
+        requires { length body.old.items ≤ reply_limit }
+        ensures lines { IfOk result (λ fits. AddsText fits body.old.items body.new.items
+            (first_rows_text self.now.columns.now selection.old.left
+            (cell_of self.now.live.now.state row ∷ []))) }
+        ensures left { selection.new.left ≡ selection.old.left - 1 }
+        ensures same { selection.new.filter ≡ selection.old.filter }
+    {
+        if selection.left == 0 {
+            return Ok(true);
+        }
+        selection.left -= 1;
+        self.push_row(body, row)
+    }
+
     /// Adds the line of a row. False where the body is too large with it.
     fn push_row(&self, body: &mut Vec<u8>, row: Row) -> Result<bool, Memory>
         ensures { IfOk result (λ fits. AddsText fits body.old.items body.new.items
-            (csv_line (row_line self.now.live.now.state self.now.columns.now row))) }
+            (csv_line (row_line self.now.columns.now (cell_of self.now.live.now.state row)))) }
     {
         let cells = RowCells::of(self.live, row);
         self.push_line(body, Line::Row(&cells))
@@ -153,6 +227,19 @@ impl Page<'_> {
     {
         let value = cells.value(self.alloc, column)?;
         push_value(body, &value)
+    }
+}
+
+/// Where the block that begins at a place ends.
+fn block_end(at: usize, count: usize) -> usize
+    requires { at < count }
+    ensures some { at < result }
+    ensures within { result ≤ count }
+{
+    if count - at < BLOCK {
+        count
+    } else {
+        at + BLOCK
     }
 }
 

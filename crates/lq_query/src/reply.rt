@@ -1,13 +1,15 @@
-ghost use Rattle.std.specs.Prelude.{◌≡◌, IfOk};
+ghost use Rattle.std.specs.Prelude.{◌≡◌, None, IfOk, IfSome};
 ghost use Rattle.lq_query.specs.Answer.{answer_of, reply_lines};
 ghost use Rattle.lq_query.specs.Body.{IsBody};
 ghost use Rattle.lq_query.specs.Csv.{csv};
 
 use crate::column::shown_columns;
 use crate::page::Page;
+use crate::selection::Selection;
 use lq_live::Live;
 use lq_records::{Items, Memory};
 use lq_request::Request;
+use lq_tables::rows;
 use std::alloc::Global;
 
 /// The most bytes that the body of a reply may have. A body of one byte more is replaced by the
@@ -30,8 +32,8 @@ pub struct Reply {
 }
 
 /// Answers a query: 200, the names of the columns where the query asks for them and a line for each
-/// row of the table, or 413 and no byte where the lines have more than `REPLY_LIMIT` bytes. The
-/// only error is out of memory.
+/// row of the table that its filter chooses, as many as its limit says, or 413 and no byte where
+/// the lines have more than `REPLY_LIMIT` bytes. The only error is out of memory.
 pub fn answer(alloc: Global, live: &Live, request: &Request) -> Result<Reply, Memory>
     ensures { IfOk result (λ reply. reply ≡ answer_of request.now live.now.state) }
 {
@@ -55,8 +57,30 @@ fn body(alloc: Global, live: &Live, request: &Request) -> Result<Option<Vec<u8>>
     let page = Page {
         alloc,
         live,
-        table: request.table,
         columns: &columns,
     };
-    page.body(request.head)
+    let Some(mut body) = page.names(request.head)? else {
+        return Ok(None);
+    };
+    let rows = rows(alloc, live, request.table)?;
+    let mut selection = Selection {
+        filter: request.filter.ready(alloc)?,
+        left: most_rows(request.limit, rows.len()),
+    };
+    if page.push_rows(&mut body, &mut selection, rows.as_slice())? {
+        Ok(Some(body))
+    } else {
+        Ok(None)
+    }
+}
+
+/// How many of some rows are shown at most.
+fn most_rows(limit: Option<u64>, count: usize) -> usize
+    ensures none { limit ≡ None → result ≡ count }
+    ensures some { IfSome limit (λ most. result ≡ most) }
+{
+    match limit {
+        Some(most) => most as usize,
+        None => count,
+    }
 }

@@ -1,9 +1,10 @@
-pub mod ListLemmas
-pub mod FrontLemmas
-pub mod MessageLemmas
+pub mod CutLemmas
 pub mod ExtentLemmas
+pub mod FrontLemmas
+pub mod ListLemmas
+pub mod MessageLemmas
+pub mod NumberLemmas
+pub mod OrderLemmas
 pub mod PieceLemmas
 pub mod SearchLemmas
-pub mod CutLemmas
-pub mod OrderLemmas
 pub mod TextLemmas

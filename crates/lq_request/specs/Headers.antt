@@ -1,5 +1,5 @@
 -- What the header lines of a query say, or why one of them is refused.
-use Rattle.std.specs.Prelude.{ℕ, ◌+◌, ◌==◌, nat_lt, length, Bool, not, Option, Some, None, is_none, ok_or}
+use Rattle.std.specs.Prelude.{ℕ, ◌+◌, ◌==◌, nat_lt, length, Bool, true, false, not, Option, Some, None, is_none, ok_or}
 use Rattle.std.specs.Prelude.{Result, Ok, Err, List, [], ◌∷◌, ◌++◌, take, drop, find, bytes_eq, codes, position, if◌then◌else◌}
 use Rattle.std.specs.List.{filter_map}
 use Rattle.std.specs.Str.{is_utf8}
@@ -7,6 +7,9 @@ use Rattle.lq_text.specs.Blanks.{words_of}
 use Rattle.lq_schema.specs.Schema.{column_of}
 use Rattle.lq_schema.specs.declared.columns.Col.{Col}
 use Rattle.lq_schema.specs.declared.columns.Table.{Table}
+use Rattle.lq_filter.specs.declared.header.Header.{Header}
+use Rattle.lq_request.specs.Filters.{test_of, test_words, with_join, with_negation, with_test}
+use Rattle.lq_request.specs.Numbers.{number_value}
 use Rattle.lq_request.specs.declared.header.Draft.{Draft}
 use Rattle.lq_request.specs.declared.reason.Reason.{Reason}
 use Rattle.lq_request.specs.declared.reason.Reason.TheVariants as reason
@@ -49,6 +52,15 @@ abbrev pub draft_by : {V : Type 0} → Result V Reason → (V → Draft) → Res
 draft_by (Err fault) left = Err fault
 draft_by (Ok value) left = Ok (left value)
 
+-- what follows from a part that is well formed
+abbrev pub if_read : {V W : Type 0} → Result V Reason → (V → Result W Reason) → Result W Reason
+if_read (Err fault) later = Err fault
+if_read (Ok value) later = later value
+
+-- the draft with other headers of its filter
+abbrev pub with_filter : Draft → Result (List Header) Reason → Result Draft Reason
+with_filter draft headers = draft_by headers (λ filter. record draft { filter = filter })
+
 -- columns are added to those that earlier lines name
 abbrev pub with_columns : List ℕ → List ℕ → Draft → Result Draft Reason
 with_columns name value draft =
@@ -57,14 +69,34 @@ with_columns name value draft =
       request = record draft.request { columns = draft.request.columns ++ more };
     })
 
+-- a test is added to the filter
+abbrev pub with_test_value : List ℕ → List ℕ → Draft → Result Draft Reason
+with_test_value name value draft =
+    with_filter draft
+    (if_read (test_of draft.request.table name (test_words value)) (with_test draft.filter))
+
+-- the last filters are joined
+abbrev pub with_join_value : List ℕ → Bool → List ℕ → Draft → Result Draft Reason
+with_join_value name any value draft =
+    with_filter draft (if_read (number_value name value) (with_join name any draft.filter))
+
 -- What a query says with one more header, of which this is the name and the value. The last switch
--- decides. Of `KeepAlive` the style speaks.
+-- and the last limit decide. `Negate` has no value, and of `KeepAlive` the style speaks.
 unfoldable pub with_header : List ℕ → List ℕ → Draft → Result Draft Reason
 with_header name value draft =
     if bytes_eq name (codes "Columns") then with_columns name value draft
     else if bytes_eq name (codes "ColumnHeaders")
     then draft_by (switch name value) (λ on. record draft { names = Some on })
     else if bytes_eq name (codes "KeepAlive") then draft_by (switch name value) (λ on. draft)
+    else if bytes_eq name (codes "Filter") then with_test_value name value draft
+    else if bytes_eq name (codes "And") then with_join_value name false value draft
+    else if bytes_eq name (codes "Or") then with_join_value name true value draft
+    else if bytes_eq name (codes "Negate")
+    then with_filter draft (with_negation name draft.filter)
+    else if bytes_eq name (codes "Limit")
+    then draft_by (number_value name value) (λ limit. record draft {
+      request = record draft.request { limit = Some limit };
+    })
     else Err (reason.UnknownHeader name)
 
 -- ---- header lines
@@ -83,16 +115,11 @@ with_line number line draft =
     else if nat_lt most_headers number then Err reason.TooManyHeaders
     else with_header_at line (position is_colon line) draft
 
--- what follows lines that are well formed
-abbrev pub and_lines : Result Draft Reason → (Draft → Result Draft Reason) → Result Draft Reason
-and_lines (Err fault) later = Err fault
-and_lines (Ok draft) later = later draft
-
 -- What a query says with header lines from a number on, after those before. The first empty line
 -- ends them; before it the first line with a fault decides.
 abbrev pub header_lines : ℕ → List (List ℕ) → Draft → Result Draft Reason
 header_lines number [] draft = Ok draft
 header_lines number (line ∷ lines) draft =
     if length line == 0 then Ok draft
-    else and_lines (with_line number line draft)
+    else if_read (with_line number line draft)
     (λ next. header_lines (number + 1) lines next)

@@ -45,10 +45,13 @@ plain style table = record {
     table = table;
     columns = [];
     head = false;
+    filter = [];
+    limit = None;
     fixed16 = style.fixed16;
     keep = style.keep;
   };
   names = None;
+  filter = [];
 }
 
 -- The columns that are shown where lines name some, and whether a line of names comes first. Where
@@ -58,9 +61,11 @@ abbrev pub shown_columns : Draft → List Col → Request
 shown_columns draft [] = record draft.request {
   columns = columns_of draft.request.table;
   head = unwrap_or draft.names true;
+  filter = draft.filter;
 }
 shown_columns draft (column ∷ columns) = record draft.request {
   head = unwrap_or draft.names false;
+  filter = draft.filter;
 }
 
 -- the request of a query that is read whole

@@ -8,6 +8,7 @@ ghost use Rattle.lq_request.specs.Extent.{IsExtent};
 ghost use Rattle.lq_request.specs.Search.{AreLines, IsKnown, IsSearched};
 ghost use Rattle.lq_request.specs.declared.extent.LineKind.TheVariants as line_kind;
 
+use crate::words::blank_length;
 use lq_text::{is_blank, next_line};
 
 /// How many bytes the word `COMMAND` has, which begins the line of a command.
@@ -183,18 +184,6 @@ fn ends_word(rest: &[u8]) -> bool
         Some(byte) => is_blank(*byte),
         None => true,
     }
-}
-
-/// How many blanks stand at the front of the bytes.
-fn blank_length(bytes: &[u8]) -> usize
-    ensures front { result ≡ prefix_len is_blank bytes.now }
-    ensures within { result ≤ length bytes.now }
-{
-    let mut at = 0;
-    'blanks: while at < bytes.len() && is_blank(bytes[at]) {
-        at += 1;
-    }
-    at
 }
 
 /// The lines of a kind at the front of bytes, by their length: those with a line feed, and all.

@@ -8,10 +8,12 @@ ghost use Rattle.lq_request.specs.Reading.{Finds, Leaves};
 ghost use Rattle.lq_request.specs.Style.{is_colon};
 
 use crate::fault::Fault;
+use crate::number::number_value;
 use crate::reason::Reason;
 use crate::request::Request;
 use crate::style::{colon_place, switch_value};
 use crate::words::{as_text, is_text, words_of};
+use lq_filter::Stack;
 use lq_records::{Items, Memory, Text};
 use lq_schema::{Col, Table, column};
 use lq_text::next_line;
@@ -24,10 +26,12 @@ pub const MOST_HEADERS: usize = 256;
 /// ones that they name, and what they say of the line of names.
 #[derive(Drop)]
 pub struct Draft {
-    /// The request. Its field `head` says nothing yet.
+    /// The request. Its fields `head` and `filter` say nothing yet.
     pub request: Request,
     /// Whether a line of the columns' names comes first, None where no line speaks of it.
     pub names: Option<bool>,
+    /// The headers of the filter so far.
+    pub filter: Stack,
 }
 
 impl Draft {
@@ -42,6 +46,11 @@ impl Draft {
             "KeepAlive" => {
                 switch(alloc, name, value)?;
             }
+            "Filter" => self.add_test(alloc, name, value)?,
+            "And" => self.join(alloc, name, false, value)?,
+            "Or" => self.join(alloc, name, true, value)?,
+            "Negate" => self.negate(alloc, name)?,
+            "Limit" => self.request.limit = Some(number_value(alloc, name, value)?),
             _ => return Err(Fault::Refused(Reason::UnknownHeader(Text::new(alloc, name)?))),
         }
         Ok(())

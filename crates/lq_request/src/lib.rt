@@ -4,7 +4,9 @@
 mod cut;
 mod extent;
 mod fault;
+mod filter;
 mod header;
+mod number;
 mod reason;
 mod request;
 mod style;

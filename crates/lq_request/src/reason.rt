@@ -27,6 +27,18 @@ pub enum Reason {
     BadValue(Text),
     /// No column of the table has this name.
     UnknownColumn(Text),
+    /// A test has a word that is no operator.
+    UnknownOperator(Text),
+    /// The operator of a test isn't one for the column with this name, or not with its value.
+    NotAllowed(Text),
+    /// A test compares a column of numbers with this.
+    NotNumber(Text),
+    /// A test looks for a text that is no pattern.
+    BadPattern,
+    /// There are more patterns than a query may have.
+    TooManyPatterns,
+    /// The header with this name takes more filters than stand, or none.
+    StackTooShort(Text),
 }
 
 /// A refusal by its parts: its code, the front of its text, and the word that follows it.
@@ -48,6 +60,14 @@ impl Reason {
             Reason::UnknownHeader(name) => Parts(400, "unknown header: ", name.as_str()),
             Reason::BadValue(name) => Parts(400, "bad value for ", name.as_str()),
             Reason::UnknownColumn(word) => Parts(450, "unknown column: ", word.as_str()),
+            Reason::UnknownOperator(word) => Parts(400, "unknown operator: ", word.as_str()),
+            Reason::NotAllowed(column) => {
+                Parts(400, "operator not allowed for ", column.as_str())
+            }
+            Reason::NotNumber(value) => Parts(400, "not a number: ", value.as_str()),
+            Reason::BadPattern => Parts(400, "bad pattern", ""),
+            Reason::TooManyPatterns => Parts(400, "too many patterns", ""),
+            Reason::StackTooShort(name) => Parts(400, "stack too short for ", name.as_str()),
         }
     }
 

@@ -11,6 +11,7 @@ use crate::header::{Draft, header_lines};
 use crate::reason::Reason;
 use crate::style::{Style, reply_style};
 use crate::words::{as_text, is_text, words_of};
+use lq_filter::{Filter, Stack};
 use lq_records::{Base, Items, Memory, Refusal, Text};
 use lq_schema::{Col, Table, column_at, column_count, table};
 use lq_text::next_line;
@@ -26,6 +27,10 @@ pub struct Request {
     /// Whether a line of the columns' names comes first: what the last `ColumnHeaders` line says;
     /// without one, true exactly where no columns are named.
     pub head: bool,
+    /// Which rows are shown.
+    pub filter: Filter,
+    /// How many rows are shown at most, the first ones. None where no `Limit` line says it.
+    pub limit: Option<u64>,
     /// Whether a line of 16 bytes with the code and the length comes first. It is always false so
     /// far.
     pub fixed16: bool,
@@ -53,9 +58,11 @@ pub enum ReadErr {
 /// `GET`; 451 `missing table name`; 404 `unknown table: <word>`; 400 `extra words after the table
 /// name`. Then the first header line with a fault does, and in it the first of these: 400 `not
 /// UTF-8`; `too many headers` in the 257th; `line without a colon`; `unknown header: <name>`; `bad
-/// value for Columns` without a word; 450 `unknown column: <word>`; `bad value for ColumnHeaders`
-/// and `bad value for KeepAlive` where it isn't `on` or `off`. Both have the style that
-/// `reply_style` gives.
+/// value for <header>`; 450 `unknown column: <word>`; `unknown operator: <word>`; `operator not
+/// allowed for <column>`; `not a number: <value>`; `bad pattern`; `too many patterns` at the 17th;
+/// `stack too short for <header>`. A value is bad where `Columns` has no word, a switch isn't `on`
+/// or `off`, `And`, `Or` and `Limit` have no number of 64 bits, and `Filter` has no operator. Both
+/// have the style that `reply_style` gives.
 #[tactic(auto, unfolding(crate::specs::Request::asked))]
 pub fn read_request(alloc: Global, b: &[u8], _base: &Base) -> Result<Request, ReadErr>
     ensures { Reads result (asked b.now) }
@@ -97,10 +104,13 @@ fn plain(alloc: Global, style: Style, table: Table) -> Draft
             table,
             columns: Items::new(alloc),
             head: false,
+            filter: Filter::everything(alloc),
+            limit: None,
             fixed16: style.fixed16,
             keep: style.keep,
         },
         names: None,
+        filter: Stack::new(alloc),
     }
 }
 
@@ -144,6 +154,7 @@ fn finished(alloc: Global, draft: Draft) -> Result<Request, Memory>
     ensures { IfOk result (λ request. request ≡ finished draft) }
 {
     let mut request = draft.request;
+    request.filter = draft.filter.finish()?;
     let shows_all = request.columns.is_empty();
     request.head = draft.names.unwrap_or(shows_all);
     if shows_all {

@@ -200,7 +200,7 @@ impl Site {
     }
 
     /// Plays commands, one a line.
-    fn play(&mut self, alloc: Global, commands: &str) -> Result<(), Fail> {
+    pub(crate) fn play(&mut self, alloc: Global, commands: &str) -> Result<(), Fail> {
         for line in commands.split('\n') {
             if !line.is_empty() {
                 self.play_line(alloc, line)?;

@@ -7,6 +7,8 @@ mod columns;
 #[cfg(test)]
 mod commands;
 #[cfg(test)]
+mod filters;
+#[cfg(test)]
 mod fixture;
 #[cfg(test)]
 mod live;

@@ -275,8 +275,8 @@ fn a_message_ends_within_its_limit(rt: HostRuntime) -> Result<(), Fail> {
 // ---- what a message asks
 
 /// What a message asks: its table, `+names` where a line of names comes first, `+keep` where the
-/// connection goes on, and its columns, or how many they are. Of a refused one its code, `+keep`
-/// and its text.
+/// connection goes on, `+limit` with the most rows where it says them, and its columns, or how many
+/// they are. Of a refused one its code, `+keep` and its text.
 fn shown(alloc: Global, read: &Result<Request, ReadErr>) -> Result<String, AllocError> {
     match read {
         Ok(request) => shown_request(alloc, request),
@@ -295,8 +295,16 @@ fn shown_request(alloc: Global, request: &Request) -> Result<String, AllocError>
     }
     let names = if request.head { "+names" } else { "" };
     let keep = if request.keep { "+keep" } else { "" };
+    let limit = shown_limit(alloc, request.limit)?;
     let columns = shown_columns(alloc, request.columns.as_slice())?;
-    format!(in alloc; "{}{names}{keep}{columns}", request.table.name())
+    format!(in alloc; "{}{names}{keep}{limit}{columns}", request.table.name())
+}
+
+fn shown_limit(alloc: Global, limit: Option<u64>) -> Result<String, AllocError> {
+    match limit {
+        Some(most) => format!(in alloc; "+limit {most}"),
+        None => Ok(String::new(alloc)),
+    }
 }
 
 /// The names of columns with a blank before each, or how many they are where they are many.
@@ -525,7 +533,7 @@ const HEADERS: &[(&[u8], &str)] = &[
     (b"GET hosts\ncolumns: name", "400 unknown header: columns"),
     (b"GET hosts\nColumns : name", "400 unknown header: Columns "),
     (b"GET hosts\n Columns: name", "400 unknown header:  Columns"),
-    (b"GET hosts\nLimit: 1", "400 unknown header: Limit"),
+    (b"GET hosts\nStats: state = 0", "400 unknown header: Stats"),
     (b"GET hosts\n: name", "400 unknown header: "),
     (b"GET hosts\nColumns:", "400 bad value for Columns"),
     (
@@ -539,8 +547,8 @@ const HEADERS: &[(&[u8], &str)] = &[
         "400 not UTF-8",
     ),
     (
-        b"GET hosts\nLimit: 1\nColumns: nope",
-        "400 unknown header: Limit",
+        b"GET hosts\nStats: state = 0\nColumns: nope",
+        "400 unknown header: Stats",
     ),
 ];
 
@@ -577,6 +585,259 @@ const UNKNOWN_COLUMNS: &[(&[u8], &str)] = &[
     ),
 ];
 
+/// How many rows are shown at most.
+const MOST_ROWS: &[(&[u8], &str)] = &[
+    (b"GET hosts\nColumns: name\nLimit: 1", "hosts+limit 1 name"),
+    (
+        b"GET hosts\nColumns: name\nLimit:\t 0 \t\r\n",
+        "hosts+limit 0 name",
+    ),
+    (
+        b"GET hosts\nLimit:007\nColumns: name\nKeepAlive: on",
+        "hosts+keep+limit 7 name",
+    ),
+    (
+        b"GET hosts\nColumns: name\nLimit: 7\nLimit: 5",
+        "hosts+limit 5 name",
+    ),
+    (
+        b"GET hosts\nColumns: name\nLimit: 18446744073709551615",
+        "hosts+limit 18446744073709551615 name",
+    ),
+    (
+        b"GET hosts\nLimit: 18446744073709551616",
+        "400 bad value for Limit",
+    ),
+    (b"GET hosts\nLimit: -1", "400 bad value for Limit"),
+    (b"GET hosts\nLimit: +1", "400 bad value for Limit"),
+    (b"GET hosts\nLimit: 1 1", "400 bad value for Limit"),
+    (b"GET hosts\nLimit:", "400 bad value for Limit"),
+    (b"GET hosts\nLimit: \t", "400 bad value for Limit"),
+    (b"GET hosts\nLimit: x\nLimit: 1", "400 bad value for Limit"),
+    (b"GET hosts\nLimit : 1", "400 unknown header: Limit "),
+    (b"GET hosts\nlimit: 1", "400 unknown header: limit"),
+];
+
+const TESTS: &[(&[u8], &str)] = &[
+    (b"GET hosts\nColumns: name\nFilter: state = 0", "hosts name"),
+    (b"GET hosts\nFilter:state = 0\nColumns: name", "hosts name"),
+    (
+        b"GET hosts\nColumns: name\nFilter:\t \tstate\t  >=\t\t 0 \t\r\n",
+        "hosts name",
+    ),
+    (b"GET hosts\nColumns: name\nFilter: name =", "hosts name"),
+    (
+        b"GET hosts\nColumns: name\nFilter: host_name = a: b",
+        "hosts name",
+    ),
+    (
+        b"GET hosts\nColumns: name\nFilter: contacts = \t ",
+        "hosts name",
+    ),
+    (b"GET hosts\nFilter:", "400 bad value for Filter"),
+    (b"GET hosts\nFilter: \t", "400 bad value for Filter"),
+    (b"GET hosts\nFilter: name", "400 bad value for Filter"),
+    (b"GET hosts\nFilter: name \t ", "400 bad value for Filter"),
+    (b"GET hosts\nFilter: name=web1", "400 bad value for Filter"),
+    (b"GET hosts\nFilter: nope", "400 bad value for Filter"),
+    (b"GET hosts\nFilter: nope == x", "450 unknown column: nope"),
+    (
+        b"GET hosts\nFilter: description = x",
+        "450 unknown column: description",
+    ),
+    (
+        b"GET hosts\nFilter: host_host_name = x",
+        "450 unknown column: host_host_name",
+    ),
+    (b"GET hosts\nFilter: Name = x", "450 unknown column: Name"),
+    (b"GET hosts\nFilter: name == x", "400 unknown operator: =="),
+    (b"GET hosts\nFilter: name =x", "400 unknown operator: =x"),
+    (b"GET hosts\nFilter: state <> x", "400 unknown operator: <>"),
+    (b"GET hosts\nFilter: name = \xff", "400 not UTF-8"),
+    (b"GET hosts\nFilter name = x", "400 line without a colon"),
+    (b"GET hosts\nfilter: name = x", "400 unknown header: filter"),
+    (
+        b"GET hosts\nFilter: state = x\nColumns: nope",
+        "400 not a number: x",
+    ),
+    (
+        b"GET hosts\nColumns: nope\nFilter: state = x",
+        "450 unknown column: nope",
+    ),
+];
+
+/// Operators that aren't for a kind of columns.
+const NOT_ALLOWED: &[(&[u8], &str)] = &[
+    (
+        b"GET hosts\nFilter: state ~ x",
+        "400 operator not allowed for state",
+    ),
+    (
+        b"GET hosts\nFilter: state !~ 0",
+        "400 operator not allowed for state",
+    ),
+    (
+        b"GET hosts\nFilter: state =~ 0",
+        "400 operator not allowed for state",
+    ),
+    (
+        b"GET hosts\nFilter: state !=~ 0",
+        "400 operator not allowed for state",
+    ),
+    (
+        b"GET hosts\nFilter: state ~~ (",
+        "400 operator not allowed for state",
+    ),
+    (
+        b"GET hosts\nFilter: host_state !~~ 0",
+        "400 operator not allowed for host_state",
+    ),
+    (
+        b"GET hosts\nFilter: contacts = anna",
+        "400 operator not allowed for contacts",
+    ),
+    (
+        b"GET hosts\nFilter: contacts != anna",
+        "400 operator not allowed for contacts",
+    ),
+    (
+        b"GET hosts\nFilter: contacts =~ anna",
+        "400 operator not allowed for contacts",
+    ),
+    (
+        b"GET hosts\nFilter: contacts =~",
+        "400 operator not allowed for contacts",
+    ),
+    (
+        b"GET hosts\nFilter: contacts !=~ anna",
+        "400 operator not allowed for contacts",
+    ),
+    (
+        b"GET hosts\nFilter: comments = 1",
+        "400 operator not allowed for comments",
+    ),
+    (
+        b"GET hosts\nFilter: downtimes !=~ 1",
+        "400 operator not allowed for downtimes",
+    ),
+    (
+        b"GET servicegroups\nFilter: members = a|b",
+        "400 operator not allowed for members",
+    ),
+    (
+        b"GET servicegroups\nFilter: members =~ a|b",
+        "400 operator not allowed for members",
+    ),
+];
+
+const OPERANDS: &[(&[u8], &str)] = &[
+    (
+        b"GET hosts\nColumns: name\nFilter: state = 9223372036854775807",
+        "hosts name",
+    ),
+    (
+        b"GET hosts\nColumns: name\nFilter: state != -9223372036854775808",
+        "hosts name",
+    ),
+    (
+        b"GET hosts\nFilter: state < 9223372036854775808",
+        "400 not a number: 9223372036854775808",
+    ),
+    (
+        b"GET hosts\nFilter: state > -9223372036854775809",
+        "400 not a number: -9223372036854775809",
+    ),
+    (
+        b"GET hosts\nColumns: name\nFilter: state = -0",
+        "hosts name",
+    ),
+    (
+        b"GET hosts\nColumns: name\nFilter: state = 007",
+        "hosts name",
+    ),
+    (b"GET hosts\nFilter: state = +1", "400 not a number: +1"),
+    (b"GET hosts\nFilter: state = - \t", "400 not a number: -"),
+    (b"GET hosts\nFilter: state =", "400 not a number: "),
+    (b"GET hosts\nFilter: state = \t ", "400 not a number: "),
+    (
+        b"GET hosts\nFilter: state =  1 \t2 \t",
+        "400 not a number: 1 \t2",
+    ),
+    (b"GET hosts\nFilter: state <= 1.0", "400 not a number: 1.0"),
+    (b"GET hosts\nFilter: state >= --1", "400 not a number: --1"),
+];
+
+const PATTERNS: &[(&[u8], &str)] = &[
+    (b"GET hosts\nColumns: name\nFilter: name ~", "hosts name"),
+    (b"GET hosts\nColumns: name\nFilter: name !~ }", "hosts name"),
+    (b"GET hosts\nFilter: name ~ (", "400 bad pattern"),
+    (b"GET hosts\nFilter: name !~ )", "400 bad pattern"),
+    (b"GET hosts\nFilter: name ~~ [", "400 bad pattern"),
+    (b"GET hosts\nFilter: name !~~ *", "400 bad pattern"),
+    (b"GET hosts\nFilter: name ~ a\\", "400 bad pattern"),
+    (b"GET hosts\nFilter: name ~ a{2}", "400 bad pattern"),
+    (b"GET hosts\nFilter: name ~ \\{", "400 bad pattern"),
+    (b"GET hosts\nFilter: contacts ~ (", "400 bad pattern"),
+    (b"GET hosts\nFilter: contacts !~~ {", "400 bad pattern"),
+    (b"GET hosts\nColumns: name\nFilter: name = {(", "hosts name"),
+    (
+        b"GET hosts\nColumns: name\nFilter: contacts >= {(",
+        "hosts name",
+    ),
+];
+
+const JOINS: &[(&[u8], &str)] = &[
+    (b"GET hosts\nAnd: 0", "400 stack too short for And"),
+    (b"GET hosts\nOr: 0", "400 stack too short for Or"),
+    (b"GET hosts\nAnd: 1", "400 stack too short for And"),
+    (b"GET hosts\nNegate:", "400 stack too short for Negate"),
+    (b"GET hosts\nNegate: 1", "400 stack too short for Negate"),
+    (b"GET hosts\nNegate", "400 line without a colon"),
+    (
+        b"GET hosts\nFilter: state = 0\nAnd: 0",
+        "400 stack too short for And",
+    ),
+    (
+        b"GET hosts\nFilter: state = 0\nFilter: state = 1\nAnd: 3",
+        "400 stack too short for And",
+    ),
+    (
+        b"GET hosts\nFilter: state = 0\nFilter: state = 1\nOr: 2\nOr: 2",
+        "400 stack too short for Or",
+    ),
+    (
+        b"GET hosts\nFilter: state = 0\nNegate:\nAnd: 2",
+        "400 stack too short for And",
+    ),
+    (
+        b"GET hosts\nFilter: state = 0\nOr: 18446744073709551615",
+        "400 stack too short for Or",
+    ),
+    (
+        b"GET hosts\nOr: 18446744073709551616",
+        "400 bad value for Or",
+    ),
+    (b"GET hosts\nOr: x", "400 bad value for Or"),
+    (
+        b"GET hosts\nFilter: state = 0\nFilter: state = 1\nOr: 1 1",
+        "400 bad value for Or",
+    ),
+    (b"GET hosts\nAnd:", "400 bad value for And"),
+    (
+        b"GET hosts\nFilter: state = 0\nAnd: -1",
+        "400 bad value for And",
+    ),
+    (b"GET hosts\nand: 1", "400 unknown header: and"),
+    (
+        b"GET hosts\nColumns: name\nFilter: state = 0\nAnd: 1\nOr:\t1 \t\nNegate: 9",
+        "hosts name",
+    ),
+    (
+        b"GET hosts\nFilter: state = 0\nColumns: name\nFilter: state = 1\nLimit: 3\nOr: 2",
+        "hosts+limit 3 name",
+    ),
+];
+
 #[test]
 fn requests_are_read_or_refused(rt: HostRuntime) -> Result<(), Fail> {
     for cases in [
@@ -586,6 +847,12 @@ fn requests_are_read_or_refused(rt: HostRuntime) -> Result<(), Fail> {
         FIRST_LINES,
         HEADERS,
         UNKNOWN_COLUMNS,
+        MOST_ROWS,
+        TESTS,
+        NOT_ALLOWED,
+        OPERANDS,
+        PATTERNS,
+        JOINS,
     ] {
         for (message, expected) in cases {
             assert_read(&rt, *message, *expected)?;
@@ -594,26 +861,139 @@ fn requests_are_read_or_refused(rt: HostRuntime) -> Result<(), Fail> {
     Ok(())
 }
 
-/// What follows 256 header lines, and what is asked then.
-const AFTER_256: &[(&[u8], &str)] = &[
-    (b"", "hosts 256 columns"),
-    (b"\nno colon", "400 too many headers"),
-    (b"\n\xff\nKeepAlive: on\n", "400+keep not UTF-8"),
+/// The front of a query, a part of it as often as the number says, what follows, and what is asked
+/// then.
+type Repeated<'a> = (&'a [u8], &'a [u8], usize, &'a [u8], &'a str);
+
+const HEADER_LINES: &[Repeated<'static>] = &[
+    (
+        b"GET hosts",
+        b"\nColumns: name",
+        256,
+        b"",
+        "hosts 256 columns",
+    ),
+    (
+        b"GET hosts",
+        b"\nColumns: name",
+        256,
+        b"\nno colon",
+        "400 too many headers",
+    ),
+    (
+        b"GET hosts",
+        b"\nColumns: name",
+        256,
+        b"\n\xff\nKeepAlive: on\n",
+        "400+keep not UTF-8",
+    ),
+    (
+        b"GET hosts\nColumns: name",
+        b"\nFilter: state = 0",
+        254,
+        b"\nAnd: 254",
+        "hosts name",
+    ),
+    (
+        b"GET hosts\nColumns: name",
+        b"\nFilter: state = 0",
+        254,
+        b"\nOr: 255",
+        "400 stack too short for Or",
+    ),
+    (
+        b"GET hosts\nColumns: name",
+        b"\nFilter: state = 0",
+        255,
+        b"\nOr: 255",
+        "400 too many headers",
+    ),
 ];
 
-/// A query with 256 header lines, and an end.
-fn with_headers(alloc: Global, end: &[u8]) -> Result<Vec<u8>, AllocError> {
-    let mut message = Vec::from_slice(alloc, b"GET hosts")?;
-    message.extend_from_slice(&b"\nColumns: name".repeat(alloc, 256)?)?;
+/// A query up to a pattern.
+const UP_TO_PATTERN: &[u8] = b"GET hosts\nColumns: name\nFilter: name ~ ";
+
+/// A query up to the repetitions in a pattern, each of which nests deeper.
+const UP_TO_STARS: &[u8] = b"GET hosts\nColumns: name\nFilter: name ~ a";
+
+/// A query up to its filters.
+const UP_TO_FILTERS: &[u8] = b"GET hosts\nColumns: name";
+
+const LONG_AND_MANY_PATTERNS: &[Repeated<'static>] = &[
+    (UP_TO_PATTERN, b"a", 200, b"", "hosts name"),
+    (UP_TO_PATTERN, b"a", 201, b"", "400 bad pattern"),
+    (UP_TO_PATTERN, b" ", 300, b"a", "hosts name"),
+    (UP_TO_PATTERN, b"\xc3\xa4", 100, b"", "hosts name"),
+    (UP_TO_PATTERN, b"\xc3\xa4", 100, b"a", "400 bad pattern"),
+    (UP_TO_PATTERN, b"a", 199, b"{", "400 bad pattern"),
+    (
+        UP_TO_PATTERN,
+        b"(",
+        100,
+        b"))))))))))))))))))))))))))))))))))))))))))))))))))\
+))))))))))))))))))))))))))))))))))))))))))))))))))",
+        "hosts name",
+    ),
+    (UP_TO_PATTERN, b"(", 100, b")", "400 bad pattern"),
+    (UP_TO_STARS, b"*", 199, b"", "hosts name"),
+    (UP_TO_STARS, b"*", 200, b"", "400 bad pattern"),
+    (
+        UP_TO_FILTERS,
+        b"\nFilter: name ~ a\nFilter: state = 0\nFilter: contacts !~~ b",
+        8,
+        b"\nFilter: name = a\nAnd: 9",
+        "hosts name",
+    ),
+    (
+        UP_TO_FILTERS,
+        b"\nFilter: name !~ a",
+        16,
+        b"\nFilter: name ~~ a",
+        "400 too many patterns",
+    ),
+    (
+        UP_TO_FILTERS,
+        b"\nFilter: contacts ~~ a",
+        16,
+        b"\nOr: 16\nFilter: contacts !~ a",
+        "400 too many patterns",
+    ),
+    (
+        UP_TO_FILTERS,
+        b"\nFilter: name ~ a",
+        16,
+        b"\nFilter: name ~ (",
+        "400 bad pattern",
+    ),
+];
+
+/// A query with a repeated part.
+fn repeated(
+    alloc: Global,
+    front: &[u8],
+    (part, count): (&[u8], usize),
+    end: &[u8],
+) -> Result<Vec<u8>, AllocError> {
+    let mut message = Vec::from_slice(alloc, front)?;
+    message.extend_from_slice(&part.repeat(alloc, count)?)?;
     message.extend_from_slice(end)?;
     Ok(message)
 }
 
+fn assert_repeated<R: Abort + AllocGlobal>(
+    rt: &R,
+    (front, part, count, end, expected): Repeated<'_>,
+) -> Result<(), Fail> {
+    let message = repeated(rt.alloc(), front, (part, count), end)?;
+    assert_read(rt, &message, expected)
+}
+
 #[test]
-fn a_message_has_at_most_256_header_lines(rt: HostRuntime) -> Result<(), Fail> {
-    for (end, expected) in AFTER_256 {
-        let message = with_headers(rt.alloc(), *end)?;
-        assert_read(&rt, &message, *expected)?;
+fn header_lines_and_patterns_have_their_limits(rt: HostRuntime) -> Result<(), Fail> {
+    for cases in [HEADER_LINES, LONG_AND_MANY_PATTERNS] {
+        for case in cases {
+            assert_repeated(&rt, *case)?;
+        }
     }
     Ok(())
 }

@@ -94,7 +94,7 @@ fn assert_run<R: Abort + AllocGlobal>(
 
 #[test]
 fn answers_a_query_on_hosts(rt: HostRuntime) -> Result<(), Fail> {
-    let cases: [(&[u8], &[u8]); 13] = [
+    let cases: [(&[u8], &[u8]); 14] = [
         (
             b"GET hosts\nColumns: name alias address state\n\n",
             b"web1;Web One;10.0.0.1;0\nweb2;Web Two;10.0.0.2;0\n",
@@ -115,7 +115,11 @@ fn answers_a_query_on_hosts(rt: HostRuntime) -> Result<(), Fail> {
         (b"GET nothing\nColumns: name\n\n", b""),
         (b"GET hosts\nColumns: nope\n\n", b""),
         (b"GET hosts x\n\n", b""),
-        (b"GET hosts\nLimit: 1\n\n", b""),
+        (b"GET hosts\nStats: state = 0\n\n", b""),
+        (
+            b"GET hosts\nColumns: name\nFilter: name ~ ^web[12]$\nLimit: 1\n\n",
+            b"web1\n",
+        ),
         (b"GET hosts\nColumns: name \xff\n\n", b""),
         (b"GET\n\n", b""),
         (b"FOO\n", b""),

@@ -1,7 +1,7 @@
 use Rattle.std.proofs.Common.{◌≡◌, ◌+◌, ◌-◌, ◌≤◌, length, drop}
 use Rattle.std.specs.List.{prefix_len}
 use Rattle.lq_text.specs.Blanks.{is_blank}
-use Rattle.lq_request.proofs.extent.blank_length.Given as goal
+use Rattle.lq_request.proofs.words.blank_length.Given as goal
 
 abbrev pub invariant-blanks : goal.invariant-blanks
 invariant-blanks l = record {

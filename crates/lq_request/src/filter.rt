@@ -1,0 +1,124 @@
+ghost use Rattle.std.specs.Prelude.{◌≡◌};
+ghost use Rattle.lq_request.specs.Filters.{test_of, test_words, with_negation};
+ghost use Rattle.lq_request.specs.Headers.{with_filter, with_join_value, with_test_value};
+ghost use Rattle.lq_request.specs.Reading.{Finds, Leaves};
+
+use crate::fault::Fault;
+use crate::header::Draft;
+use crate::number::number_value;
+use crate::reason::Reason;
+use crate::words::{split_word, without_end, without_front};
+use lq_filter::{StackErr, Test, TestErr};
+use lq_records::Text;
+use lq_schema::{Table, column};
+use std::alloc::Global;
+use std::marker::Model;
+
+/// The most patterns that a query may have. The next one is refused.
+const MOST_PATTERNS: usize = 16;
+
+/// The words of a test: a column's name, an operator and what the cell is compared with.
+#[derive(Drop)]
+struct TestWords<'a> {
+    column: &'a str,
+    operator: &'a str,
+    operand: &'a str,
+}
+
+impl<'a> Model for TestWords<'a> {
+    ghost use Rattle.lq_request.specs.Filters.{TestWords};
+
+    ghost Value = { TestWords };
+
+    ghost view = { λ words. record {
+      column = words.column.now;
+      operator = words.operator.now;
+      operand = words.operand.now;
+    } };
+}
+
+impl<'a> TestWords<'a> {
+    /// The words of a value. One that isn't there is empty.
+    fn of(value: &'a str) -> Self
+        ensures { result ≡ test_words value.now }
+    {
+        let (column, rest) = split_word(without_front(value));
+        let (operator, operand) = split_word(rest);
+        TestWords {
+            column,
+            operator,
+            operand,
+        }
+    }
+
+    /// The test that the words of the header with this name say on a table.
+    fn test(&self, alloc: Global, table: Table, name: &str) -> Result<Test, Fault>
+        ensures { Finds result (test_of table name.now self.now) }
+    {
+        if self.operator.is_empty() {
+            return Err(Fault::Refused(Reason::BadValue(Text::new(alloc, name)?)));
+        }
+        let Some(column) = column(table, self.column) else {
+            return Err(Fault::Refused(Reason::UnknownColumn(Text::new(alloc, self.column)?)));
+        };
+        let reason = match Test::read(alloc, column, self.operator, self.operand) {
+            Ok(test) => return Ok(test),
+            Err(TestErr::Operator) => Reason::UnknownOperator(Text::new(alloc, self.operator)?),
+            Err(TestErr::NotAllowed) => Reason::NotAllowed(Text::new(alloc, self.column)?),
+            Err(TestErr::NotNumber) => {
+                Reason::NotNumber(Text::new(alloc, without_end(self.operand))?)
+            }
+            Err(TestErr::BadPattern) => Reason::BadPattern,
+            Err(TestErr::Memory) => return Err(Fault::Memory),
+        };
+        Err(Fault::Refused(reason))
+    }
+}
+
+impl Draft {
+    /// Adds the test of a `Filter` line.
+    pub(crate) fn add_test(&mut self, alloc: Global, name: &str, value: &str) -> Result<(), Fault>
+        ensures { Leaves result self.new (with_test_value name.now value.now self.old) }
+    {
+        let test = TestWords::of(value).test(alloc, self.request.table, name)?;
+        if test.has_pattern() && self.filter.pattern_count() >= MOST_PATTERNS {
+            return Err(Fault::Refused(Reason::TooManyPatterns));
+        }
+        self.filter.push(test)?;
+        Ok(())
+    }
+
+    /// Joins the last filters: where `any`, one of them is enough, else all have to hold.
+    pub(crate) fn join(
+        &mut self,
+        alloc: Global,
+        name: &str,
+        any: bool,
+        value: &str,
+    ) -> Result<(), Fault>
+        ensures { Leaves result self.new (with_join_value name.now any value.now self.old) }
+    {
+        let count = number_value(alloc, name, value)?;
+        match self.filter.join(count, any) {
+            Ok(()) => Ok(()),
+            Err(StackErr::TooShort) => {
+                Err(Fault::Refused(Reason::StackTooShort(Text::new(alloc, name)?)))
+            }
+            Err(StackErr::Memory) => Err(Fault::Memory),
+        }
+    }
+
+    /// Makes the last filter its opposite.
+    pub(crate) fn negate(&mut self, alloc: Global, name: &str) -> Result<(), Fault>
+        ensures { Leaves result self.new
+            (with_filter self.old (with_negation name.now self.old.filter)) }
+    {
+        match self.filter.negate() {
+            Ok(()) => Ok(()),
+            Err(StackErr::TooShort) => {
+                Err(Fault::Refused(Reason::StackTooShort(Text::new(alloc, name)?)))
+            }
+            Err(StackErr::Memory) => Err(Fault::Memory),
+        }
+    }
+}
