@@ -1,0 +1,3 @@
+pub mod EscapeLemmas
+pub mod HeaderLemmas
+pub mod WritingLemmas

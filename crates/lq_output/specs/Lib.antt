@@ -1,0 +1,6 @@
+pub mod Cells
+pub mod Escapes
+pub mod CellValue
+pub mod Body
+pub mod Writing
+pub mod Header

@@ -1,0 +1,58 @@
+ghost use Rattle.std.specs.Prelude.{◌≡◌, ◌++◌, OnOk};
+ghost use Rattle.lq_schema.specs.Value.{Words, shown};
+ghost use Rattle.lq_output.specs.Cells.{cell_text};
+ghost use Rattle.lq_output.specs.CellValue.{value_of};
+
+use crate::fields::{push_field, push_field_of};
+use crate::json_text::{push_json, push_string};
+use crate::layout::{Format, Layout};
+use crate::number::push_number;
+use crate::plain::push_plain;
+use lq_records::Memory;
+use lq_schema::Val;
+
+/// What a cell shows. A number and a text need no value made of them.
+#[derive(Clone, Copy)]
+pub enum Cell<'a> {
+    /// A whole number.
+    Number(i128),
+    /// A text.
+    Text(&'a str),
+    /// A value of any kind.
+    Value(&'a Val<'a>),
+}
+
+/// Adds the text of a cell. The only error is out of memory.
+pub fn push_cell(out: &mut Vec<u8>, layout: Layout, cell: Cell<'_>) -> Result<(), Memory>
+    ensures { OnOk result
+        (out.new.items ≡ out.old.items ++ cell_text layout (value_of cell.entry)) }
+{
+    match cell {
+        Cell::Number(number) => push_number(out, number),
+        Cell::Text(text) => push_text(out, layout, text),
+        Cell::Value(value) => push_value(out, layout, value),
+    }
+}
+
+fn push_text(out: &mut Vec<u8>, layout: Layout, text: &str) -> Result<(), Memory>
+    ensures { OnOk result
+        (out.new.items ≡ out.old.items ++ cell_text layout (Words text.now)) }
+{
+    match layout.format {
+        Format::Csv => out.extend_from_slice(text.as_bytes()),
+        Format::QuotedCsv => push_field(out, text.as_bytes()),
+        Format::Json => push_string(out, text),
+    }
+}
+
+fn push_value(out: &mut Vec<u8>, layout: Layout, value: &Val<'_>) -> Result<(), Memory>
+    ensures { OnOk result
+        (out.new.items ≡ out.old.items ++ cell_text layout (shown value.now)) }
+{
+    let separators = layout.separators;
+    match layout.format {
+        Format::Csv => push_plain(out, separators.list, separators.pair, value),
+        Format::QuotedCsv => push_field_of(out, value),
+        Format::Json => push_json(out, value),
+    }
+}

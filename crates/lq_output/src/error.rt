@@ -1,0 +1,21 @@
+use std::alloc::AllocError;
+
+/// Why a body isn't written on.
+#[derive(Debug, Drop, PartialEq, Eq)]
+pub enum WriteErr {
+    /// The body would have more than `BODY_LIMIT` bytes.
+    TooLarge,
+    /// Memory ran out.
+    Memory,
+}
+
+impl From<AllocError> for WriteErr {
+    ghost use Rattle.std.specs.Prelude.{◌≡◌};
+    ghost use Rattle.lq_output.specs.declared.error.WriteErr.TheVariants.{Memory};
+
+    ghost from_gives = { λ _ error. error ≡ Memory };
+
+    fn from(_: AllocError) -> WriteErr {
+        WriteErr::Memory
+    }
+}

@@ -1,0 +1,70 @@
+ghost use Rattle.std.specs.Prelude.{◌≡◌, ◌+◌, ◌++◌, OnOk, OnErr, length};
+ghost use Rattle.lq_output.specs.Body.{marks_of};
+ghost use Rattle.lq_output.specs.Writing.{gap_of_cell};
+
+use crate::layout::{Format, Layout};
+use lq_records::Memory;
+
+/// Adds what a body begins with. The only error is out of memory.
+pub fn push_start(out: &mut Vec<u8>, layout: Layout) -> Result<(), Memory>
+    ensures { OnOk result (out.new.items ≡ out.old.items ++ (marks_of layout).start) }
+{
+    match layout.format {
+        Format::Csv | Format::QuotedCsv => Ok(()),
+        Format::Json => Ok(out.push(b'[')?),
+    }
+}
+
+/// Adds what stands before the next cell: before one in a line, or before a new line. The only
+/// error is out of memory.
+pub fn push_gap(
+    out: &mut Vec<u8>,
+    layout: Layout,
+    has_line: bool,
+    has_cell: bool,
+) -> Result<(), Memory>
+    ensures { OnOk result
+        (out.new.items ≡ out.old.items ++ gap_of_cell (marks_of layout) has_line has_cell) }
+{
+    match layout.format {
+        Format::Csv if has_cell => Ok(out.push(layout.separators.column)?),
+        Format::QuotedCsv if has_cell => Ok(out.push(b',')?),
+        Format::Csv | Format::QuotedCsv => Ok(()),
+        Format::Json if has_cell => Ok(out.push(b',')?),
+        Format::Json if has_line => out.extend_from_slice(b",\n["),
+        Format::Json => Ok(out.push(b'[')?),
+    }
+}
+
+/// Adds what ends a line. Where memory runs out, nothing is added.
+pub fn push_line_end(out: &mut Vec<u8>, layout: Layout) -> Result<(), Memory>
+    ensures ok { OnOk result (out.new.items ≡ out.old.items ++ (marks_of layout).line_end) }
+    ensures err { OnErr result (out.new.items ≡ out.old.items) }
+{
+    match layout.format {
+        Format::Csv => Ok(out.push(layout.separators.row)?),
+        Format::QuotedCsv => out.extend_from_slice(b"\r\n"),
+        Format::Json => Ok(out.push(b']')?),
+    }
+}
+
+/// Adds what ends a body. The only error is out of memory.
+pub fn push_finish(out: &mut Vec<u8>, layout: Layout) -> Result<(), Memory>
+    ensures { OnOk result (out.new.items ≡ out.old.items ++ (marks_of layout).finish) }
+{
+    match layout.format {
+        Format::Csv | Format::QuotedCsv => Ok(()),
+        Format::Json => out.extend_from_slice(b"]\n"),
+    }
+}
+
+/// How many bytes end a body whose line is open.
+pub fn ending_len(layout: Layout) -> usize
+    ensures { result ≡ length (marks_of layout).line_end + length (marks_of layout).finish }
+{
+    match layout.format {
+        Format::Csv => 1,
+        Format::QuotedCsv => 2,
+        Format::Json => 3,
+    }
+}

@@ -1,0 +1,45 @@
+ghost use Rattle.std.specs.Prelude.{◌≡◌, ◌++◌, OnOk};
+ghost use Rattle.std.specs.Fmt.{decimal, signed_decimal};
+
+use itoa::Buffer;
+use lq_records::Memory;
+
+/// Adds the digits of a number, after a `-` where it is below 0. It takes no memory but the text's.
+#[inline]
+pub fn push_number(out: &mut Vec<u8>, number: i128) -> Result<(), Memory>
+    ensures { OnOk result (out.new.items ≡ out.old.items ++ signed_decimal number) }
+{
+    match u64::try_from(number) {
+        Ok(number) => push_unsigned(out, number),
+        Err(_) => push_wide(out, number),
+    }
+}
+
+/// Adds the digits of a number that isn't below 0. Most numbers of a state have one digit alone,
+/// which takes no buffer.
+#[inline]
+pub fn push_unsigned(out: &mut Vec<u8>, number: u64) -> Result<(), Memory>
+    ensures { OnOk result (out.new.items ≡ out.old.items ++ decimal number) }
+{
+    if number < 10 {
+        Ok(out.push(b'0' + number as u8)?)
+    } else {
+        push_digits(out, number)
+    }
+}
+
+#[inline(never)]
+fn push_digits(out: &mut Vec<u8>, number: u64) -> Result<(), Memory>
+    ensures { OnOk result (out.new.items ≡ out.old.items ++ decimal number) }
+{
+    let mut digits = Buffer::new();
+    out.extend_from_slice(digits.format(number).as_bytes())
+}
+
+#[inline(never)]
+fn push_wide(out: &mut Vec<u8>, number: i128) -> Result<(), Memory>
+    ensures { OnOk result (out.new.items ≡ out.old.items ++ signed_decimal number) }
+{
+    let mut digits = Buffer::new();
+    out.extend_from_slice(digits.format(number).as_bytes())
+}
