@@ -1,10 +1,13 @@
-//! The data that the layers above share: texts, lists, and the objects of a base.
+//! The data that the layers above share: texts, lists, averages, the formats of replies, and the
+//! objects of a base.
 #![tactic(auto)]
 
 mod base;
 mod clean;
+mod format;
 mod ids;
 mod items;
+mod micro;
 mod name_key;
 mod named;
 mod object;
@@ -16,11 +19,13 @@ pub use base::{
     ServiceGroup,
 };
 pub use clean::clean_text;
+pub use format::{Format, Separators};
 pub use ids::{
     CommandId, ContactGroupId, ContactId, HostGroupId, HostId, Id, PeriodId, ServiceGroupId,
     ServiceId,
 };
 pub use items::Items;
+pub use micro::Micro;
 pub use named::{NamedItems, NamedObject};
 pub use object::{Object, ObjectKind};
 pub use refusal::Refusal;

@@ -5,9 +5,11 @@ use Rattle.lq_schema.specs.declared.value.Val.TheVariants as val
 use Rattle.lq_schema.specs.declared.columns.ColKind.{ColKind}
 use Rattle.lq_schema.specs.declared.columns.ColKind.TheVariants as kind
 
--- a whole number, the bytes of a text, or a list of texts, of numbers or of services
+-- a whole number, a number in millionths, the bytes of a text, or a list of texts, of numbers or of
+-- services
 pub data Value : Type 0 where
   Number : ℤ → Value
+  Millionths : ℤ → Value
   Words : List ℕ → Value
   Texts : List (List ℕ) → Value
   Numbers : List ℕ → Value
@@ -16,6 +18,7 @@ pub data Value : Type 0 where
 -- what a value says
 abbrev pub shown : Val → Value
 shown (val.Int number) = Number number
+shown (val.Micro micro) = Millionths micro.millionths
 shown (val.Str text) = Words text.now
 shown (val.List texts) = Texts texts
 shown (val.Nums numbers) = Numbers numbers

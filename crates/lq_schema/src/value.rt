@@ -1,10 +1,12 @@
-use lq_records::{Items, Text};
+use lq_records::{Items, Micro, Text};
 
 /// The value of a cell. Single texts are borrowed, lists are copies.
 #[derive(Drop)]
 pub enum Val<'a> {
     /// A whole number.
     Int(i128),
+    /// A number in millionths. No cell of a table has one.
+    Micro(Micro),
     /// A text that the data holds.
     Str(&'a str),
     /// Texts, in order.
