@@ -1,5 +1,5 @@
 -- The names that an object goes with. An id that names nothing drops out of a list.
-use Rattle.std.specs.Prelude.{ℕ, ◌==◌, Bool, false, Option, Some, None, List, [], ◌∷◌, ◌++◌, bytes_eq, nat_eq, map, drop, if◌then◌else◌}
+use Rattle.std.specs.Prelude.{◌≡◌, ℕ, ◌==◌, Bool, false, Option, Some, None, List, [], ◌∷◌, ◌++◌, bytes_eq, nat_eq, map, drop, if◌then◌else◌}
 use Rattle.std.specs.List.{filter_map, flat_map, list_any, slice_get, starts_with}
 use Rattle.std.specs.Option.{option_map, option_map_or}
 use Rattle.lq_records.specs.declared.base.Base.{Base}
@@ -57,6 +57,15 @@ members_of base id = option_map_or (λ group. group.members) (slice_get base.con
 abbrev pub contacts_of : Base → ObjectFields → List ContactId
 contacts_of base fields =
     first_of_each (fields.contacts ++ flat_map (members_of base) fields.contact_groups)
+
+-- whether an id is that of a contact; no id is that of none
+abbrev pub is_contact : Option ContactId → ContactId → Bool
+is_contact None id = false
+is_contact (Some contact) id = id.0 == contact.0
+
+-- the contact with a name, None where there is none: no other id is that of a contact so named
+pub record IsContactNamed (base : Base) (name : List ℕ) (contact : Option ContactId) : Type 0 where
+  pub same : (id : ContactId) → is_named name (name_of_contact base id) ≡ is_contact contact id
 
 -- ---- groups that list an object
 

@@ -1,7 +1,8 @@
-ghost use Rattle.std.specs.Prelude.{◌≡◌, ◌++◌, [], IfOk, OnOk, flat_map};
+ghost use Rattle.std.specs.Prelude.{◌≡◌, ◌==◌, ◌++◌, ℕ, [], IfOk, List, OnOk, flat_map};
 ghost use Rattle.std.specs.List.{list_any};
+ghost use Rattle.lq_records.specs.Sound.{IsSound};
 ghost use Rattle.lq_columns.specs.Distinct.{stands_in, with_new, with_one};
-ghost use Rattle.lq_columns.specs.Names.{contact_names_of, contacts_of, has_text, members_of};
+ghost use Rattle.lq_columns.specs.Names.{IsContactNamed, contact_names_of, contacts_of, has_text, members_of};
 
 use crate::names::has_name;
 use lq_records::{Base, ContactGroupId, ContactId, Memory, ObjectFields};
@@ -41,6 +42,57 @@ fn has_member(base: &Base, groups: &[ContactGroupId], name: &str) -> bool
     groups
         .iter()
         .any(|group| has_name(base, members_of(base, *group), name))
+}
+
+/// The contact with a name, None where the base has no such contact. Where the contacts of many
+/// objects are looked through, this finds it once.
+pub fn contact_named(base: &Base, name: &str) -> Option<ContactId>
+    requires { IsSound base.now }
+    ensures { IsContactNamed base.now name.now result }
+{
+    let contacts = base.contacts.as_slice();
+    for (place, contact) in contacts.iter().enumerate() {
+        if contact.contact_name.as_str() == name {
+            return Some(ContactId(place as u32));
+        }
+    }
+    None
+}
+
+/// Whether a contact at the object itself, or a member of one of its contact groups, is the one
+/// that is looked for.
+pub(crate) fn lists_contact(base: &Base, fields: &ObjectFields, contact: Option<ContactId>) -> bool
+    ensures { (name : List ℕ) → IsContactNamed base.now name contact
+        → result ≡ has_text name (contact_names_of base.now (contacts_of base.now fields.now)) }
+{
+    match contact {
+        Some(contact) => lists_id(base, fields, contact),
+        None => false,
+    }
+}
+
+fn lists_id(base: &Base, fields: &ObjectFields, contact: ContactId) -> bool
+    ensures { result
+        ≡ list_any (λ id. id.0 == contact.0) (contacts_of base.now fields.now) }
+{
+    lists(fields.contacts.as_slice(), contact)
+        || lists_member(base, fields.contact_groups.as_slice(), contact)
+}
+
+fn lists(ids: &[ContactId], contact: ContactId) -> bool
+    ensures { result ≡ list_any (λ id. id.0 == contact.0) ids.now }
+{
+    ids.iter().any(|id| id.0 == contact.0)
+}
+
+/// Whether the contact is a member of one of the contact groups.
+fn lists_member(base: &Base, groups: &[ContactGroupId], contact: ContactId) -> bool
+    ensures { result ≡ list_any
+        (λ group. list_any (λ id. id.0 == contact.0) (members_of base.now group)) groups.now }
+{
+    groups
+        .iter()
+        .any(|group| lists(members_of(base, *group), contact))
 }
 
 /// Adds the members of contact groups, as far as they aren't there.

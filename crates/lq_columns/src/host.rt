@@ -4,9 +4,10 @@ ghost use Rattle.lq_live.specs.State.{State};
 ghost use Rattle.lq_schema.specs.Kinds.{host_kind, own_kind};
 ghost use Rattle.lq_schema.specs.Value.{Number, Texts, Words, shown};
 ghost use Rattle.lq_columns.specs.Cells.{host_at, host_cell, host_record, host_value};
-ghost use Rattle.lq_columns.specs.Names.{has_text};
+ghost use Rattle.lq_columns.specs.Names.{IsContactNamed, contact_names_of, contacts_of, has_text};
 ghost use Rattle.lq_columns.specs.Plain.{IsHeldByHost, IsNumber, IsPlain, IsSearchedAtHost, IsText};
 
+use crate::contacts::lists_contact;
 use crate::counters::services_value;
 use crate::empty::empty_value;
 use crate::monitored::Monitored;
@@ -16,7 +17,7 @@ use crate::scope::Scope;
 use crate::status::{status_number, status_text};
 use lq_events::Status;
 use lq_live::Live;
-use lq_records::{Base, Host, HostId, Memory, Object};
+use lq_records::{Base, ContactId, Host, HostId, Memory, Object};
 use lq_schema::{Col, HostColumn, OwnColumn, Val, kind};
 use std::alloc::Global;
 
@@ -91,6 +92,17 @@ impl<'a> HostRow<'a> {
             HostColumn::Object(column) => object_contains(base, &self.host.fields, column, text),
             _ => None,
         }
+    }
+
+    /// Whether the contacts of the host have one, which was looked for in the base that the host
+    /// is of.
+    #[inline]
+    pub fn lists_contact(&self, base: &Base, contact: Option<ContactId>) -> bool
+        ensures { (name : List ℕ) → IsContactNamed base.now name contact → result
+            ≡ has_text name (contact_names_of base.now
+            (contacts_of base.now self.now.host.now.fields)) }
+    {
+        lists_contact(base, &self.host.fields, contact)
     }
 
     /// The value of a column at the state that the host is of. The only error is out of memory;

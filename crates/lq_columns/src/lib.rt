@@ -18,6 +18,7 @@ mod service;
 mod severity;
 mod status;
 
+pub use contacts::contact_named;
 pub use counters::{hosts_value, services_value};
 pub use empty::{empty_number, empty_text, empty_value};
 pub use host::{HostRow, host_value};

@@ -4,16 +4,17 @@ ghost use Rattle.lq_live.specs.State.{State};
 ghost use Rattle.lq_schema.specs.Kinds.{service_kind, own_kind};
 ghost use Rattle.lq_schema.specs.Value.{Number, Texts, Words, shown};
 ghost use Rattle.lq_columns.specs.Cells.{service_at, service_cell, service_record, service_value};
-ghost use Rattle.lq_columns.specs.Names.{has_text};
+ghost use Rattle.lq_columns.specs.Names.{IsContactNamed, contact_names_of, contacts_of, has_text};
 ghost use Rattle.lq_columns.specs.Plain.{IsHeldByService, IsNumber, IsPlain, IsSearchedAtService, IsText};
 
+use crate::contacts::lists_contact;
 use crate::empty::empty_value;
 use crate::monitored::Monitored;
 use crate::object::{object_contains, object_number, object_text};
 use crate::status::{status_number, status_text};
 use lq_events::Status;
 use lq_live::Live;
-use lq_records::{Base, Memory, Object, Service, ServiceId};
+use lq_records::{Base, ContactId, Memory, Object, Service, ServiceId};
 use lq_schema::{Col, OwnColumn, ServiceColumn, Val, kind};
 use std::alloc::Global;
 
@@ -87,6 +88,17 @@ impl<'a> ServiceRow<'a> {
             }
             ServiceColumn::Description | ServiceColumn::Status(_) => None,
         }
+    }
+
+    /// Whether the contacts of the service have one, which was looked for in the base that the service
+    /// is of.
+    #[inline]
+    pub fn lists_contact(&self, base: &Base, contact: Option<ContactId>) -> bool
+        ensures { (name : List ℕ) → IsContactNamed base.now name contact → result
+            ≡ has_text name (contact_names_of base.now
+            (contacts_of base.now self.now.service.now.fields)) }
+    {
+        lists_contact(base, &self.service.fields, contact)
     }
 
     /// The value of a column at the state that the service is of. The only error is out of memory;

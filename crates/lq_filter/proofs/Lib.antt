@@ -1,3 +1,4 @@
+pub mod AppendLemmas
 pub mod MarkLemmas
 pub mod PatternLemmas
 pub mod PrefixLemmas

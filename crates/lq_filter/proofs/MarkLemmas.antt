@@ -1,15 +1,12 @@
 -- Marks of rows after one row, one test or one tree more.
-use Rattle.std.proofs.Common.{◌≡◌, ℕ, zero, suc, ◌-◌, ◌<◌, ◌≤◌, ◌||◌, ◌&&◌, Bool, true, false, not, List, [], ◌∷◌, length, take, drop, get_or, map, refl, sym, ap, ◌∙◌, arith}
-use Rattle.std.proofs.lemmas.List.{get_or-map, get_or_default, length-map, nil_from_length, same_lists}
+use Rattle.std.proofs.Common.{◌≡◌, ℕ, zero, suc, ◌+◌, ◌-◌, ◌<◌, ◌≤◌, ◌||◌, ◌&&◌, Bool, true, false, not, List, [], ◌∷◌, length, take, drop, get_or, map, set, refl, sym, ap, ◌∙◌, arith}
+use Rattle.std.proofs.Math.Logic.{⊎_elim}
+use Rattle.std.proofs.lemmas.Bool.{cases_lt}
+use Rattle.std.proofs.lemmas.List.{get_or-map, get_or-set_other, get_or-set_same, get_or_default, length-map, nil_from_length, same_lists}
 use Rattle.lq_filter.specs.Linked.{IsTree, SizedHeader, truths_before}
-use Rattle.lq_filter.specs.Marks.{AreKept}
+use Rattle.lq_filter.specs.Marks.{AreKept, AreKeptBefore, AreKeptBetween}
 use Rattle.lq_filter.specs.Trees.{joined}
 use Rattle.lq_filter.specs.declared.read.Test.{Test}
-
--- the rows before a place have been looked at
-pub record AreKeptBefore {R : Type 0} (chosen : R → Bool) (rows : List R) (old new : List Bool) (end : ℕ) : Type 0 where
-  pub done : (place : ℕ) (row : R) → place < end → get_or new place false ≡ (get_or old place false && chosen (get_or rows place row))
-  pub left : (place : ℕ) → end ≤ place → get_or new place false ≡ get_or old place false
 
 -- ---- one test behind another
 
@@ -47,6 +44,31 @@ module _ {R : Type 0} (chosen : R → Bool) (rows : List R) where
       ∙ kept.each place row (omega arith)
       ∙ ap (λ marked. marked && chosen (get_or rows place row)) (all place (omega arith))
       ∙ sym (get_or-map chosen rows place row mark (omega arith))
+
+-- one row more has been looked at
+pub kept_next : {R : Type 0} (chosen : R → Bool) (rows : List R) (old mid : List Bool) (start place : ℕ) (met : Bool) → AreKeptBetween chosen rows old mid start place
+    → start ≤ place → place < length mid → get_or mid place false ≡ true → ((row : R) → met ≡ chosen (get_or rows place row))
+    → AreKeptBetween chosen rows old (set mid place met) start (place + 1)
+kept_next chosen rows old mid start place met kept behind within marked is = record {
+  before = λ k below. get_or-set_other mid place k met false (λ same. omega arith) ∙ kept.before k below;
+  done = λ k row least below. ⊎_elim
+      (λ (earlier : k < place). get_or-set_other mid place k met false (λ same. omega arith) ∙ kept.done k row least earlier)
+      (λ (here : place ≤ k).
+      let same : k ≡ place = omega arith in
+      rw (same) (get_or-set_same mid place met false within ∙ is row ∙ ap (λ mark. mark && chosen (get_or rows place row)) (sym marked ∙ kept.left place (omega arith))))
+      (cases_lt k place);
+  left = λ k least. get_or-set_other mid place k met false (λ same. omega arith) ∙ kept.left k (omega arith);
+}
+
+-- the first rows have been looked at, and then the others
+pub kept_both : {R : Type 0} (chosen : R → Bool) (rows : List R) (old first new : List Bool) (end : ℕ) → AreKeptBefore chosen rows old first end
+    → AreKeptBetween chosen rows first new end (length rows) → AreKept chosen rows old new
+kept_both chosen rows old first new end front back = record {
+  each = λ place row below. ⊎_elim
+      (λ (before : place < end). back.before place before ∙ front.done place row before)
+      (λ (behind : end ≤ place). back.done place row behind below ∙ ap (λ mark. mark && chosen (get_or rows place row)) (front.left place behind))
+      (cases_lt place end);
+}
 
 -- where all rows were marked, the marks say which are chosen
 pub marks_of_all : {R : Type 0} (chosen : R → Bool) (rows : List R) (old new : List Bool) → length new ≡ length rows → ((place : ℕ) → place < length rows → get_or old place false ≡ true)

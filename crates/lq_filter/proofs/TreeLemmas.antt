@@ -49,7 +49,7 @@ same_truths : (truth : Test → Bool) (nodes more : List SizedHeader) (place : �
     → truths_before truth (nodes ++ more) place ≡ truths_before truth nodes place
 same_truths truth nodes more place within = ap (λ (first : List SizedHeader). truths truth (reverse (headers_of first))) (take-append-le place nodes more within)
 
-same_tree : (nodes more : List SizedHeader) (place size : ℕ) → place ≤ length nodes → IsTree nodes place size → IsTree (nodes ++ more) place size
+pub same_tree : (nodes more : List SizedHeader) (place size : ℕ) → place ≤ length nodes → IsTree nodes place size → IsTree (nodes ++ more) place size
 same_tree nodes more place size within is = record {
   some = is.some;
   within = is.within;
@@ -89,7 +89,7 @@ AreLinked-more nodes node linked next = record {
 -- ---- by header
 
 -- all headers
-whole_truths : (truth : Test → Bool) (nodes : List SizedHeader) → truths_before truth nodes (length nodes) ≡ truths truth (reverse (headers_of nodes))
+pub whole_truths : (truth : Test → Bool) (nodes : List SizedHeader) → truths_before truth nodes (length nodes) ≡ truths truth (reverse (headers_of nodes))
 whole_truths truth nodes = ap (λ (first : List SizedHeader). truths truth (reverse (headers_of first))) (take_all (length nodes) nodes (omega arith))
 
 -- the last trees begin at a place

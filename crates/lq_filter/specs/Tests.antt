@@ -6,7 +6,7 @@ use Rattle.std.specs.List.{list_any}
 use Rattle.std.specs.Ordering.{int_eq, is_gt, is_lt, nat_cmp}
 use Rattle.std.specs.Str.{str_eq_ignore_ascii_case}
 use Rattle.std.specs.declared.cmp.Ordering.TheVariants.{Equal, Greater, Less}
-use Rattle.lq_schema.specs.Value.{Value, Number, Words, Texts, Numbers, Pairs}
+use Rattle.lq_schema.specs.Value.{Value, Number, Millionths, Words, Texts, Numbers, Pairs}
 use Rattle.lq_filter.specs.Patterns.{is_found}
 use Rattle.lq_filter.specs.declared.check.Check.{Check}
 use Rattle.lq_filter.specs.declared.check.Comparison.{Comparison}
@@ -56,9 +56,10 @@ list_has (Matches pattern) elements = list_any (is_found pattern) elements
 abbrev pub pair_text : List ℕ × List ℕ → List ℕ
 pair_text pair = pair.0 ++ 124 ∷ pair.1
 
--- an element of a list of numbers is its decimal text
+-- An element of a list of numbers is its decimal text. No cell has a number in millionths.
 abbrev pub has_property : Property → Value → Bool
 has_property property (Number number) = number_has property number
+has_property property (Millionths number) = false
 has_property property (Words text) = text_has property text
 has_property property (Texts texts) = list_has property texts
 has_property property (Numbers numbers) = list_has property (map decimal numbers)

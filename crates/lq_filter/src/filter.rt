@@ -1,4 +1,4 @@
-ghost use Rattle.std.specs.Prelude.{◌≡◌, [], All, IfOk};
+ghost use Rattle.std.specs.Prelude.{◌≡◌, ◌==◌, [], All, IfOk, length};
 ghost use Rattle.lq_filter.specs.Linked.{AreLinked, headers_of};
 ghost use Rattle.lq_filter.specs.Prefixes.{AreTrees, Trees, all_hold};
 ghost use Rattle.lq_filter.specs.Trees.{HasColumn, holds, truth_on};
@@ -43,6 +43,14 @@ impl Filter {
         Filter {
             nodes: Vec::new(alloc),
         }
+    }
+
+    /// Whether the filter has no header, and so chooses each row.
+    #[inline]
+    pub fn is_everything(&self) -> bool
+        ensures { result ≡ (length self.now == 0) }
+    {
+        self.nodes.is_empty()
     }
 
     /// The filter with the matchers of its patterns: what serves where many rows are tested. The

@@ -4,16 +4,33 @@ ghost use Rattle.lq_filter.specs.Linked.{AreLinked, headers_of, truths_before};
 ghost use Rattle.lq_filter.specs.Marks.{AreKept};
 ghost use Rattle.lq_filter.specs.Trees.{HasColumn, joined, truth_on};
 
-use crate::cells::Cells;
 use crate::ready::Step;
+use crate::scan::{Scan, ScannedRow};
 use lq_records::Memory;
 use std::alloc::Global;
 
-/// Rows that are tested together, and the allocator for what their values take.
+/// Rows that are tested together, what tells their cells, and the allocator for what their values
+/// take.
 #[derive(Drop)]
-pub(crate) struct Block<'r, C> {
+pub(crate) struct Block<'r, S: Scan> {
     pub(crate) alloc: Global,
-    pub(crate) rows: &'r [C],
+    pub(crate) scan: &'r S,
+    pub(crate) rows: &'r [S::Row],
+}
+
+impl<S: Scan> Block<'_, S> {
+    /// The row at a place.
+    #[inline(always)]
+    pub(crate) fn at(&self, place: usize) -> ScannedRow<'_, S>
+        requires { place < length self.now.rows.now }
+        ensures scan { result.scan.now ≡ self.now.scan.now }
+        ensures row { (other : S.Row) → result.row ≡ slice_index_or self.now.rows.now place other }
+    {
+        ScannedRow {
+            scan: self.scan,
+            row: self.rows[place],
+        }
+    }
 }
 
 /// The last trees before a place.
@@ -28,20 +45,22 @@ pub(crate) struct LastTrees {
 /// Keeps the marks of the rows on which all of the trees hold. The first of them is looked at
 /// first.
 #[cycle(marks)]
-pub(crate) fn keep_all<C: Cells>(
-    block: &Block<'_, C>,
+pub(crate) fn keep_all<S: Scan>(
+    block: &Block<'_, S>,
     steps: &mut [Step<'_>],
     trees: LastTrees,
     marks: &mut [bool],
 ) -> Result<(), Memory>
     requires linked { AreLinked steps.old }
     requires within { trees.end ≤ length steps.old }
-    requires columns { All (λ row. All (HasColumn (C.has row)) (headers_of steps.old))
+    requires columns { All
+        (λ row. All (HasColumn (S.has block.now.scan.now row)) (headers_of steps.old))
         block.now.rows.now }
     requires marked { length marks.old ≡ length block.now.rows.now }
     ensures kept { OnOk result (AreKept
         (λ row. joined false
-        (take trees.count (truths_before (truth_on (C.cell row)) steps.old trees.end)))
+        (take trees.count
+        (truths_before (truth_on (S.cell block.now.scan.now row)) steps.old trees.end)))
         block.now.rows.now marks.old marks.new) }
     ensures same { steps.new ≡ steps.old }
 {
@@ -59,20 +78,22 @@ pub(crate) fn keep_all<C: Cells>(
 /// Keeps the marks of the rows on which one of the trees holds. The first of them is looked at
 /// first.
 #[cycle(marks)]
-fn keep_any<C: Cells>(
-    block: &Block<'_, C>,
+fn keep_any<S: Scan>(
+    block: &Block<'_, S>,
     steps: &mut [Step<'_>],
     trees: LastTrees,
     marks: &mut [bool],
 ) -> Result<(), Memory>
     requires linked { AreLinked steps.old }
     requires within { trees.end ≤ length steps.old }
-    requires columns { All (λ row. All (HasColumn (C.has row)) (headers_of steps.old))
+    requires columns { All
+        (λ row. All (HasColumn (S.has block.now.scan.now row)) (headers_of steps.old))
         block.now.rows.now }
     requires marked { length marks.old ≡ length block.now.rows.now }
     ensures kept { OnOk result (AreKept
         (λ row. joined true
-        (take trees.count (truths_before (truth_on (C.cell row)) steps.old trees.end)))
+        (take trees.count
+        (truths_before (truth_on (S.cell block.now.scan.now row)) steps.old trees.end)))
         block.now.rows.now marks.old marks.new) }
     ensures same { steps.new ≡ steps.old }
 {
@@ -95,8 +116,8 @@ fn keep_any<C: Cells>(
 /// Keeps the marks of the rows on which the tree holds that ends at a place. Where no row is marked
 /// nothing is tested.
 #[cycle(marks)]
-fn keep_tree<C: Cells>(
-    block: &Block<'_, C>,
+fn keep_tree<S: Scan>(
+    block: &Block<'_, S>,
     steps: &mut [Step<'_>],
     place: usize,
     marks: &mut [bool],
@@ -104,11 +125,13 @@ fn keep_tree<C: Cells>(
     requires linked { AreLinked steps.old }
     requires some { 0 < place }
     requires within { place ≤ length steps.old }
-    requires columns { All (λ row. All (HasColumn (C.has row)) (headers_of steps.old))
+    requires columns { All
+        (λ row. All (HasColumn (S.has block.now.scan.now row)) (headers_of steps.old))
         block.now.rows.now }
     requires marked { length marks.old ≡ length block.now.rows.now }
     ensures kept { OnOk result (AreKept
-        (λ row. slice_index_or (truths_before (truth_on (C.cell row)) steps.old place) 0 false)
+        (λ row. slice_index_or
+        (truths_before (truth_on (S.cell block.now.scan.now row)) steps.old place) 0 false)
         block.now.rows.now marks.old marks.new) }
     ensures same { steps.new ≡ steps.old }
 {

@@ -15,7 +15,8 @@ const MOST_BYTES: usize = 200;
 #[derive(Drop)]
 pub struct Pattern {
     folded: bool,
-    regex: Regex,
+    /// It stands apart, since it takes some two thousand bytes.
+    regex: Box<Regex>,
 }
 
 impl Model for Pattern {
@@ -25,9 +26,9 @@ impl Model for Pattern {
 
     ghost Value = { PatternText };
 
-    ghost view = { λ pattern. pattern_text pattern.folded (regex_source pattern.regex) };
+    ghost view = { λ pattern. pattern_text pattern.folded (regex_source pattern.regex.value) };
 
-    ghost invariant = { λ pattern. IsCompiled pattern.folded pattern.regex };
+    ghost invariant = { λ pattern. IsCompiled pattern.folded pattern.regex.value };
 }
 
 impl Pattern {
@@ -79,7 +80,10 @@ fn compiled(alloc: Global, source: &str, folded: bool) -> Result<Option<Pattern>
         .case_insensitive(folded)
         .build(alloc)
     {
-        Ok(regex) => Ok(Some(Pattern { folded, regex })),
+        Ok(regex) => Ok(Some(Pattern {
+            folded,
+            regex: Box::new(alloc, regex)?,
+        })),
         Err(Error::Syntax(_)) => Ok(None),
         Err(_) => Err(AllocError),
     }

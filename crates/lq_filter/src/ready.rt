@@ -12,6 +12,7 @@ use crate::marks::{Block, LastTrees, keep_all};
 use crate::node::Node;
 use crate::read::Test;
 use crate::ready_test::ReadyTest;
+use crate::scan::Scan;
 use lq_records::Memory;
 use std::alloc::Global;
 use std::marker::Model;
@@ -86,14 +87,19 @@ impl ReadyFilter<'_> {
     /// Which of the rows are chosen. Each test goes over all rows that the tests before it left
     /// open, so many rows are best given in blocks of some hundreds, which stay in the processor's
     /// cache. The only error is out of memory.
-    pub fn marks<C: Cells>(&mut self, alloc: Global, rows: &[C]) -> Result<Vec<bool>, Memory>
-        requires { All (λ row. All (HasColumn (C.has row)) self.old) rows.now }
+    pub fn marks<S: Scan>(
+        &mut self,
+        alloc: Global,
+        scan: &S,
+        rows: &[S::Row],
+    ) -> Result<Vec<bool>, Memory>
+        requires { All (λ row. All (HasColumn (S.has scan.now row)) self.old) rows.now }
         ensures marks { IfOk result (λ marks.
-            marks.items ≡ map (λ row. holds (truth_on (C.cell row)) self.old) rows.now) }
+            marks.items ≡ map (λ row. holds (truth_on (S.cell scan.now row)) self.old) rows.now) }
         ensures same { self.new ≡ self.old }
     {
         let mut marks = vec![in alloc; true; rows.len()]?;
-        let block = Block { alloc, rows };
+        let block = Block { alloc, scan, rows };
         let count = self.steps.len();
         let trees = LastTrees { end: count, count };
         keep_all(&block, &mut self.steps, trees, &mut marks)?;
@@ -230,15 +236,17 @@ impl Step<'_> {
     }
 
     /// Keeps the marks of the rows that meet the header's test.
-    pub(crate) fn keep_met<C: Cells>(
+    pub(crate) fn keep_met<S: Scan>(
         &mut self,
-        block: &Block<'_, C>,
+        block: &Block<'_, S>,
         marks: &mut [bool],
     ) -> Result<(), Memory>
-        requires columns { All (λ row. HasColumn (C.has row) self.old.header) block.now.rows.now }
+        requires columns { All
+            (λ row. HasColumn (S.has block.now.scan.now row) self.old.header) block.now.rows.now }
         requires marked { length marks.old ≡ length block.now.rows.now }
         ensures kept { (test : Test) → self.old.header ≡ header.Test test → OnOk result
-            (AreKept (λ row. truth_on (C.cell row) test) block.now.rows.now marks.old marks.new) }
+            (AreKept (λ row. truth_on (S.cell block.now.scan.now row) test)
+            block.now.rows.now marks.old marks.new) }
         ensures same { self.new ≡ self.old }
     {
         match &mut self.header {

@@ -1,15 +1,17 @@
-ghost use Rattle.std.specs.Prelude.{◌≡◌, ℕ, IfOk, IfSome, List, map};
+ghost use Rattle.std.specs.Prelude.{◌≡◌, ℕ, IfOk, IfSome, List, map, true};
 ghost use Rattle.std.specs.Fmt.{decimal};
 ghost use Rattle.std.specs.List.{list_any};
 ghost use Rattle.std.specs.Option.{IsSome};
 ghost use Rattle.lq_schema.specs.Value.{Number, Words, shown};
 ghost use Rattle.lq_filter.specs.Patterns.{is_found};
-ghost use Rattle.lq_filter.specs.Ready.{property_of};
+ghost use Rattle.lq_filter.specs.Ready.{check_of_element, check_of_number, property_of};
 ghost use Rattle.lq_filter.specs.Tests.{has_property, is_met, is_of_number, list_has, negated_if, number_has, pair_text, text_has};
 ghost use Rattle.lq_filter.specs.declared.check.Comparison.TheVariants as by;
 ghost use Rattle.lq_filter.specs.declared.check.Property.TheVariants.{Compares};
 
 use crate::check::{Check, Comparison, Property};
+use crate::element_check::ElementCheck;
+use crate::number_check::NumberCheck;
 use crate::pattern::ReadyPattern;
 use lq_records::{Memory, Text};
 use lq_schema::Val;
@@ -88,6 +90,36 @@ impl<'c> ReadyCheck<'c> {
         )
     }
 
+    /// What the check asks of a number, None for any other check.
+    pub fn of_number(&self) -> Option<NumberCheck>
+        ensures asked { IfSome result (λ check. self.now ≡ check_of_number check) }
+        ensures given { is_of_number self.now.property ≡ true → IsSome result }
+    {
+        match &self.property {
+            ReadyProperty::Compares(Comparison::Number(ordering, operand)) => Some(NumberCheck {
+                negated: self.negated,
+                ordering: *ordering,
+                operand: *operand,
+            }),
+            _ => None,
+        }
+    }
+
+    /// The element that the check asks for in a list, None for any other check.
+    pub fn of_element(&self) -> Option<ElementCheck<'c>>
+        ensures asked { IfSome result (λ check. self.now ≡ check_of_element check) }
+        ensures given { (element : List ℕ) → self.now.property ≡ Compares (by.Contains element)
+            → IsSome result }
+    {
+        match &self.property {
+            ReadyProperty::Compares(Comparison::Contains(element)) => Some(ElementCheck {
+                negated: self.negated,
+                element: element.as_str(),
+            }),
+            _ => None,
+        }
+    }
+
     /// The text that a list is asked to have as an element, None for any other check.
     #[inline]
     pub fn element(&self) -> Option<&'c str>
@@ -136,6 +168,7 @@ impl ReadyProperty<'_> {
     {
         match value {
             Val::Int(number) => Ok(self.holds_for_number(*number)),
+            Val::Micro(_) => Ok(false),
             Val::Str(text) => Ok(self.holds_for_text(text)),
             Val::Own(text) => Ok(self.holds_for_text(text.as_str())),
             Val::List(texts) => Ok(self.holds_for_list(texts.as_slice())),

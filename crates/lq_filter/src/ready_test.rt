@@ -1,14 +1,18 @@
-ghost use Rattle.std.specs.Prelude.{◌≡◌, All, IfOk, OnOk, length};
-ghost use Rattle.lq_filter.specs.Marks.{AreKept};
+ghost use Rattle.std.specs.Prelude.{◌≡◌, ◌≤◌, All, IfOk, OnOk, length};
+ghost use Rattle.lq_filter.specs.Marks.{AreKept, AreKeptBetween};
+ghost use Rattle.lq_filter.specs.Ready.{check_of_element, check_of_number};
 ghost use Rattle.lq_filter.specs.ReadyHeaders.{test_of};
 ghost use Rattle.lq_filter.specs.Trees.{truth_on};
 ghost use Rattle.lq_filter.specs.declared.check.Comparison.TheVariants as by;
 ghost use Rattle.lq_filter.specs.declared.check.Property.TheVariants.{Compares};
 
 use crate::cells::Cells;
+use crate::element_check::ElementCheck;
 use crate::marks::Block;
+use crate::number_check::NumberCheck;
 use crate::ready::Row;
 use crate::ready_check::ReadyCheck;
+use crate::scan::Scan;
 use lq_records::Memory;
 use lq_schema::{Col, ColKind, kind};
 use std::alloc::Global;
@@ -41,22 +45,24 @@ impl ReadyTest<'_> {
     }
 
     /// Keeps the marks of the rows that meet the test. Only marked rows are tested.
-    pub(crate) fn keep_met<C: Cells>(
+    pub(crate) fn keep_met<S: Scan>(
         &mut self,
-        block: &Block<'_, C>,
+        block: &Block<'_, S>,
         marks: &mut [bool],
     ) -> Result<(), Memory>
-        requires columns { All (λ row. C.has row self.old.column) block.now.rows.now }
+        requires columns { All (λ row. S.has block.now.scan.now row self.old.column)
+            block.now.rows.now }
         requires marked { length marks.old ≡ length block.now.rows.now }
-        ensures kept { OnOk result (AreKept (λ row. truth_on (C.cell row) (test_of self.old))
+        ensures kept { OnOk result (AreKept
+            (λ row. truth_on (S.cell block.now.scan.now row) (test_of self.old))
             block.now.rows.now marks.old marks.new) }
         ensures same { test_of self.new ≡ test_of self.old }
     {
-        if self.check.is_of_number() {
-            return self.keep_met_by_number(block, marks);
+        if let Some(check) = self.check.of_number() {
+            return self.keep_met_by_number(block, check, marks);
         }
-        if let Some(element) = self.check.element() {
-            return self.keep_met_by_element(block, element, marks);
+        if let Some(check) = self.check.of_element() {
+            return self.keep_met_by_element(block, check, marks);
         }
         match kind(self.column) {
             ColKind::Str => self.keep_met_by_text(block, marks),
@@ -64,83 +70,140 @@ impl ReadyTest<'_> {
         }
     }
 
-    /// The same for a check that asks for a number.
-    fn keep_met_by_number<C: Cells>(
+    /// The same for a check that asks for a number. The rows are tested one by one where the cells
+    /// give no answer for many at once.
+    fn keep_met_by_number<S: Scan>(
         &mut self,
-        block: &Block<'_, C>,
+        block: &Block<'_, S>,
+        check: NumberCheck,
         marks: &mut [bool],
     ) -> Result<(), Memory>
-        requires columns { All (λ row. C.has row self.old.column) block.now.rows.now }
+        requires columns { All (λ row. S.has block.now.scan.now row self.old.column)
+            block.now.rows.now }
         requires marked { length marks.old ≡ length block.now.rows.now }
-        ensures kept { OnOk result (AreKept (λ row. truth_on (C.cell row) (test_of self.old))
+        requires asked { self.old.check ≡ check_of_number check }
+        ensures kept { OnOk result (AreKept
+            (λ row. truth_on (S.cell block.now.scan.now row) (test_of self.old))
             block.now.rows.now marks.old marks.new) }
         ensures same { test_of self.new ≡ test_of self.old }
     {
-        for (place, row) in block.rows.iter().enumerate() {
+        let done = block
+            .scan
+            .keep_numbers(block.rows, self.column, check, marks);
+        self.keep_rest_by_number(block, done, marks)
+    }
+
+    /// The same for the rows from a place on.
+    fn keep_rest_by_number<S: Scan>(
+        &mut self,
+        block: &Block<'_, S>,
+        start: usize,
+        marks: &mut [bool],
+    ) -> Result<(), Memory>
+        requires columns { All (λ row. S.has block.now.scan.now row self.old.column)
+            block.now.rows.now }
+        requires marked { length marks.old ≡ length block.now.rows.now }
+        requires within { start ≤ length block.now.rows.now }
+        ensures kept { OnOk result (AreKeptBetween
+            (λ row. truth_on (S.cell block.now.scan.now row) (test_of self.old))
+            block.now.rows.now marks.old marks.new start (length block.now.rows.now)) }
+        ensures same { test_of self.new ≡ test_of self.old }
+    {
+        for place in start..block.rows.len() {
             if marks[place] {
-                marks[place] = self.is_met_by_number(block.alloc, row)?;
+                marks[place] = self.is_met_by_number(block.alloc, &block.at(place))?;
             }
         }
         Ok(())
     }
 
     /// The same for a column of texts.
-    fn keep_met_by_text<C: Cells>(
+    fn keep_met_by_text<S: Scan>(
         &mut self,
-        block: &Block<'_, C>,
+        block: &Block<'_, S>,
         marks: &mut [bool],
     ) -> Result<(), Memory>
-        requires columns { All (λ row. C.has row self.old.column) block.now.rows.now }
+        requires columns { All (λ row. S.has block.now.scan.now row self.old.column)
+            block.now.rows.now }
         requires marked { length marks.old ≡ length block.now.rows.now }
-        ensures kept { OnOk result (AreKept (λ row. truth_on (C.cell row) (test_of self.old))
+        ensures kept { OnOk result (AreKept
+            (λ row. truth_on (S.cell block.now.scan.now row) (test_of self.old))
             block.now.rows.now marks.old marks.new) }
         ensures same { test_of self.new ≡ test_of self.old }
     {
-        for (place, row) in block.rows.iter().enumerate() {
+        for place in 0..block.rows.len() {
             if marks[place] {
-                marks[place] = self.is_met_by_text(block.alloc, row)?;
+                marks[place] = self.is_met_by_text(block.alloc, &block.at(place))?;
             }
         }
         Ok(())
     }
 
     /// The same for a check that asks for an element of a list.
-    fn keep_met_by_element<C: Cells>(
+    fn keep_met_by_element<S: Scan>(
         &mut self,
-        block: &Block<'_, C>,
-        element: &str,
+        block: &Block<'_, S>,
+        check: ElementCheck<'_>,
         marks: &mut [bool],
     ) -> Result<(), Memory>
-        requires columns { All (λ row. C.has row self.old.column) block.now.rows.now }
+        requires columns { All (λ row. S.has block.now.scan.now row self.old.column)
+            block.now.rows.now }
         requires marked { length marks.old ≡ length block.now.rows.now }
-        requires asked { self.old.check.property ≡ Compares (by.Contains element.now) }
-        ensures kept { OnOk result (AreKept (λ row. truth_on (C.cell row) (test_of self.old))
+        requires asked { self.old.check ≡ check_of_element check }
+        ensures kept { OnOk result (AreKept
+            (λ row. truth_on (S.cell block.now.scan.now row) (test_of self.old))
             block.now.rows.now marks.old marks.new) }
         ensures same { test_of self.new ≡ test_of self.old }
     {
-        for (place, row) in block.rows.iter().enumerate() {
+        let done = block
+            .scan
+            .keep_elements(block.rows, self.column, check, marks);
+        self.keep_rest_by_element(block, done, check.element, marks)
+    }
+
+    /// The same for the rows from a place on.
+    fn keep_rest_by_element<S: Scan>(
+        &mut self,
+        block: &Block<'_, S>,
+        start: usize,
+        element: &str,
+        marks: &mut [bool],
+    ) -> Result<(), Memory>
+        requires columns { All (λ row. S.has block.now.scan.now row self.old.column)
+            block.now.rows.now }
+        requires marked { length marks.old ≡ length block.now.rows.now }
+        requires within { start ≤ length block.now.rows.now }
+        requires asked { self.old.check.property ≡ Compares (by.Contains element.now) }
+        ensures kept { OnOk result (AreKeptBetween
+            (λ row. truth_on (S.cell block.now.scan.now row) (test_of self.old))
+            block.now.rows.now marks.old marks.new start (length block.now.rows.now)) }
+        ensures same { test_of self.new ≡ test_of self.old }
+    {
+        for place in start..block.rows.len() {
             if marks[place] {
-                marks[place] = self.is_met_by_element(block.alloc, row, element)?;
+                marks[place] = self.is_met_by_element(block.alloc, &block.at(place), element)?;
             }
         }
         Ok(())
     }
 
     /// The same for any other column.
-    fn keep_met_by_value<C: Cells>(
+    fn keep_met_by_value<S: Scan>(
         &mut self,
-        block: &Block<'_, C>,
+        block: &Block<'_, S>,
         marks: &mut [bool],
     ) -> Result<(), Memory>
-        requires columns { All (λ row. C.has row self.old.column) block.now.rows.now }
+        requires columns { All (λ row. S.has block.now.scan.now row self.old.column)
+            block.now.rows.now }
         requires marked { length marks.old ≡ length block.now.rows.now }
-        ensures kept { OnOk result (AreKept (λ row. truth_on (C.cell row) (test_of self.old))
+        ensures kept { OnOk result (AreKept
+            (λ row. truth_on (S.cell block.now.scan.now row) (test_of self.old))
             block.now.rows.now marks.old marks.new) }
         ensures same { test_of self.new ≡ test_of self.old }
     {
-        for (place, row) in block.rows.iter().enumerate() {
+        for place in 0..block.rows.len() {
             if marks[place] {
-                marks[place] = self.is_met_by_value(block.alloc, row)?;
+                marks[place] = self.is_met_by_value(block.alloc, &block.at(place))?;
             }
         }
         Ok(())

@@ -113,6 +113,18 @@ impl Stack {
         Ok(())
     }
 
+    /// Adds the headers of another stack, whose trees then stand behind those of this one. The only
+    /// error is out of memory, and then the stack stays as it was.
+    pub fn append(&mut self, later: Stack) -> Result<(), Memory>
+        ensures ok { OnOk result (self.new ≡ self.old ++ later) }
+        ensures trees { OnOk result (height self.new ≡ height self.old + height later) }
+        ensures err { OnErr result (self.new ≡ self.old) }
+    {
+        add_all(&mut self.nodes, later.nodes)?;
+        self.height += later.height;
+        Ok(())
+    }
+
     /// How many patterns its tests look for.
     pub fn pattern_count(&self) -> usize
         ensures { result ≡ pattern_count self.now }
@@ -145,6 +157,17 @@ fn add(nodes: &mut Vec<Node>, header: Header, size: usize) -> Result<(), Memory>
     ensures err { OnErr result (nodes.new.items ≡ nodes.old.items) }
 {
     nodes.push(Node { header, size })?;
+    Ok(())
+}
+
+/// Adds the headers of other trees behind the others.
+fn add_all(nodes: &mut Vec<Node>, later: Vec<Node>) -> Result<(), Memory>
+    ensures ok { OnOk result (nodes.new.items ≡ nodes.old.items ++ later.items) }
+    ensures fits { OnOk result (length nodes.new.items < 2 ^ 64) }
+    ensures err { OnErr result (nodes.new.items ≡ nodes.old.items) }
+{
+    let mut later = later;
+    nodes.append(&mut later)?;
     Ok(())
 }
 

@@ -1,9 +1,10 @@
--- Columns whose cells take no memory, and those whose numbers stand in the state as they are.
+-- Columns whose cells take no memory, those whose numbers stand in the state as they are, and those
+-- whose lists are searched where their texts stand.
 use Rattle.lq_schema.specs.declared.columns.OwnColumn.{OwnColumn}
 use Rattle.lq_schema.specs.declared.columns.OwnColumn.TheVariants as own
 use Rattle.lq_schema.specs.declared.schema_column.SchemaColumn.TheVariants as schema
 use Rattle.lq_schema.specs.Kinds.{own_kind}
-use Rattle.lq_columns.specs.Plain.{IsHeldByHost, IsHeldByService, IsPlain}
+use Rattle.lq_columns.specs.Plain.{IsHeldByHost, IsHeldByService, IsPlain, IsSearchedAtHost, IsSearchedAtService}
 
 -- numbers and single texts, but not the whole name of a column, which is put together
 abbrev pub IsLight : OwnColumn → Type 0
@@ -20,3 +21,9 @@ IsHeld (own.Downtime column) = Unit {0}
 IsHeld (own.Comment column) = Unit {0}
 IsHeld (own.Program column) = Unit {0}
 IsHeld column = ⊥
+
+-- the contacts and the contact groups of hosts and services
+abbrev pub IsSearchedIn : OwnColumn → Type 0
+IsSearchedIn (own.Host column) = IsSearchedAtHost column
+IsSearchedIn (own.Service column) = IsSearchedAtService column
+IsSearchedIn column = ⊥

@@ -1,11 +1,16 @@
 ghost use Rattle.std.specs.Prelude.{◌≡◌, ℕ, IfOk, IsOk, List};
 ghost use Rattle.std.specs.Option.{IfSome, IsSome};
-ghost use Rattle.lq_columns.specs.Names.{has_text};
+ghost use Rattle.lq_columns.specs.Names.{IsContactNamed, has_text};
 ghost use Rattle.lq_columns.specs.Plain.{IsNumber, IsText};
 ghost use Rattle.lq_schema.specs.Kinds.{own_kind};
-ghost use Rattle.lq_schema.specs.Value.{Number, Texts, Words, shown};
-ghost use Rattle.lq_tables.specs.Cells.{cell_of};
-ghost use Rattle.lq_tables.specs.Light.{IsHeld, IsLight};
+ghost use Rattle.lq_schema.specs.Value.{Number, Texts, Words, empty_value, shown};
+ghost use Rattle.lq_schema.specs.declared.columns.ColKind.TheVariants as column_kind;
+ghost use Rattle.lq_schema.specs.declared.columns.OwnColumn.TheVariants as own;
+ghost use Rattle.lq_schema.specs.declared.host.HostColumn.TheVariants as host_column;
+ghost use Rattle.lq_schema.specs.declared.object.ObjectColumn.TheVariants as object_column;
+ghost use Rattle.lq_schema.specs.declared.service.ServiceColumn.TheVariants as service_column;
+ghost use Rattle.lq_tables.specs.Cells.{cell_of, own_cell};
+ghost use Rattle.lq_tables.specs.Light.{IsHeld, IsLight, IsSearchedIn};
 
 use crate::about::{
     host_of, row_command, row_comment, row_contact, row_contact_group, row_downtime, row_entry,
@@ -24,8 +29,8 @@ use crate::row::Row;
 use lq_columns::{HostRow, ServiceRow, empty_number, empty_text, empty_value};
 use lq_events::{Comment, Downtime};
 use lq_live::Live;
-use lq_records::Memory;
-use lq_schema::{Col, OwnColumn, Table, Val, kind};
+use lq_records::{ContactId, Memory};
+use lq_schema::{Col, ColKind, HostColumn, OwnColumn, ServiceColumn, Table, Val, kind};
 use std::alloc::Global;
 use std::marker::Model;
 
@@ -185,46 +190,142 @@ impl<'a> RowCells<'a> {
 /// looked at it takes less: it finds alone what the column is about.
 #[inline]
 pub fn row_number(live: &Live, row: Row, c: Col) -> Option<i128>
-    ensures { IfSome result (λ number. cell_of live.now.state row c ≡ Number number) }
+    ensures value { IfSome result (λ number. cell_of live.now.state row c ≡ Number number) }
+    ensures given { IsNumber (own_kind c.own) → IsHeld c.own → IsSome result }
 {
     match c.own {
-        OwnColumn::Host(column) => host_of(live, row_object(live, row))?.number(column),
-        OwnColumn::Service(column) => service_of(live, row_object(live, row))?.number(column),
+        OwnColumn::Host(column) => match host_of(live, row_object(live, row)) {
+            Some(host) => host.number(column),
+            None => empty_number(kind(c)),
+        },
+        OwnColumn::Service(column) => match service_of(live, row_object(live, row)) {
+            Some(service) => service.number(column),
+            None => empty_number(kind(c)),
+        },
         OwnColumn::Downtime(column) => downtime_number(row_downtime(live, row), column),
         OwnColumn::Comment(column) => comment_number(row_comment(live, row), column),
+        _ => RowCells::of(live, row).number(c),
+    }
+}
+
+/// The number of a column of hosts where the row is a host of their table, as `row_number` gives it;
+/// None for any other row. A loop over that table's rows has no other row to look for.
+#[inline(always)]
+pub fn host_number(live: &Live, row: Row, column: HostColumn) -> Option<i128>
+    ensures { IfSome result (λ number.
+        own_cell live.now.state row (own.Host column) ≡ Number number) }
+{
+    match row {
+        Row::Host(id) => HostRow::at(live, id)?.number(column),
         _ => None,
     }
 }
 
-/// The text of one cell of a row, as `text` of `RowCells` gives it for a host, a service, a
-/// downtime or a comment; None where the column is about something else.
+/// The number of a column of services where the row is a service of their table, as `row_number`
+/// gives it; None for any other row.
+#[inline(always)]
+pub fn service_number(live: &Live, row: Row, column: ServiceColumn) -> Option<i128>
+    ensures { IfSome result (λ number.
+        own_cell live.now.state row (own.Service column) ≡ Number number) }
+{
+    match row {
+        Row::Service(id) => ServiceRow::at(live, id)?.number(column),
+        _ => None,
+    }
+}
+
+/// The text of one cell of a row, as `text` of `RowCells` gives it.
 #[inline]
 pub fn row_text(live: &Live, row: Row, c: Col) -> Option<&str>
-    ensures { IfSome result (λ text. cell_of live.now.state row c ≡ Words text.now) }
+    ensures value { IfSome result (λ text. cell_of live.now.state row c ≡ Words text.now) }
+    ensures given { IsText (own_kind c.own) → IsLight c.own → IsSome result }
 {
     match c.own {
-        OwnColumn::Host(column) => host_of(live, row_object(live, row))?.text(column),
-        OwnColumn::Service(column) => service_of(live, row_object(live, row))?.text(column),
+        OwnColumn::Host(column) => match host_of(live, row_object(live, row)) {
+            Some(host) => host.text(column),
+            None => empty_text(kind(c)),
+        },
+        OwnColumn::Service(column) => match service_of(live, row_object(live, row)) {
+            Some(service) => service.text(column),
+            None => empty_text(kind(c)),
+        },
         OwnColumn::Downtime(column) => downtime_text(row_downtime(live, row), column),
         OwnColumn::Comment(column) => comment_text(row_comment(live, row), column),
-        _ => None,
+        _ => RowCells::of(live, row).text(c),
     }
 }
 
-/// Whether the list in one cell of a row has a text, for the contacts and the contact groups of a
-/// host or a service; None for any other cell, and where the row is about no such object. It takes
-/// no memory.
+/// Whether the list in one cell of a row has a text: for the contacts and the contact groups of a
+/// host or a service, None for any other cell. It takes no memory.
 #[inline]
 pub fn row_contains(live: &Live, row: Row, c: Col, text: &str) -> Option<bool>
-    ensures { IfSome result (λ found. (texts : List (List ℕ))
+    ensures value { IfSome result (λ found. (texts : List (List ℕ))
         × (cell_of live.now.state row c ≡ Texts texts)
         × (found ≡ has_text text.now texts)) }
+    ensures given { IsSearchedIn c.own → IsSome result }
 {
     let object = row_object(live, row);
     let base = live.base();
     match c.own {
-        OwnColumn::Host(column) => host_of(live, object)?.contains(base, column, text),
-        OwnColumn::Service(column) => service_of(live, object)?.contains(base, column, text),
+        OwnColumn::Host(column) => match host_of(live, object) {
+            Some(host) => host.contains(base, column, text),
+            None => empty_contains(kind(c)),
+        },
+        OwnColumn::Service(column) => match service_of(live, object) {
+            Some(service) => service.contains(base, column, text),
+            None => empty_contains(kind(c)),
+        },
+        _ => None,
+    }
+}
+
+/// Whether a cell without an object has a text in its list: no list of texts has one then, and None
+/// says that its column has none.
+fn empty_contains(kind: ColKind) -> Option<bool>
+    ensures value { (text : List ℕ) → IfSome result (λ found. (texts : List (List ℕ))
+        × (empty_value kind ≡ Texts texts) × (found ≡ has_text text texts)) }
+    ensures given { kind ≡ column_kind.List → IsSome result }
+{
+    match kind {
+        ColKind::List => Some(false),
+        ColKind::Int | ColKind::Str | ColKind::Nums | ColKind::Pairs => None,
+    }
+}
+
+/// Whether the contacts of a host have one, where the row is a host of their table; None for any
+/// other row. `contact_named` finds the contact.
+#[inline]
+pub fn host_lists_contact(live: &Live, row: Row, contact: Option<ContactId>) -> Option<bool>
+    ensures { (name : List ℕ) → IsContactNamed live.now.state.base name contact
+        → IfSome result (λ found. (texts : List (List ℕ))
+        × (own_cell live.now.state row (own.Host (host_column.Object object_column.Contacts))
+        ≡ Texts texts)
+        × (found ≡ has_text name texts)) }
+{
+    match row {
+        Row::Host(id) => {
+            let about = HostRow::at(live, id)?;
+            Some(about.lists_contact(live.base(), contact))
+        }
+        _ => None,
+    }
+}
+
+/// Whether the contacts of a service have one, where the row is a service of their table; None for
+/// any other row. `contact_named` finds the contact.
+#[inline]
+pub fn service_lists_contact(live: &Live, row: Row, contact: Option<ContactId>) -> Option<bool>
+    ensures { (name : List ℕ) → IsContactNamed live.now.state.base name contact
+        → IfSome result (λ found. (texts : List (List ℕ))
+        × (own_cell live.now.state row (own.Service (service_column.Object object_column.Contacts))
+        ≡ Texts texts)
+        × (found ≡ has_text name texts)) }
+{
+    match row {
+        Row::Service(id) => {
+            let about = ServiceRow::at(live, id)?;
+            Some(about.lists_contact(live.base(), contact))
+        }
         _ => None,
     }
 }

@@ -14,6 +14,9 @@ mod row;
 mod schema;
 mod value;
 
-pub use cells::{RowCells, cell, row_contains, row_number, row_text};
+pub use cells::{
+    RowCells, cell, host_lists_contact, host_number, row_contains, row_number, row_text,
+    service_lists_contact, service_number,
+};
 pub use listing::{Rows, rows};
 pub use row::Row;

@@ -1,5 +1,5 @@
 use Rattle.std.proofs.Common.{not}
-use Rattle.lq_filter.proofs.MarkLemmas.{AreKeptBefore}
+use Rattle.lq_filter.specs.Marks.{AreKeptBefore}
 use Rattle.lq_filter.proofs.marks.unmark.Given as goal
 
 abbrev pub invariant-loop-place : goal.invariant-loop-place

@@ -20,8 +20,8 @@ returns-clause-marks g c =
     let count = c.len-count.result in
     let steps = c.deref_mut.result.now in
     let all_of : count ≡ length steps = c.len-count.ensures ∙ sym c.deref_mut.ensures.len in
-    let same : (row : g.row.C.Denot) → joined false (take count (truths_before (truth_on (g.C.Cells.cell row)) steps count)) ≡ holds (truth_on (g.C.Cells.cell row)) c.args.self.now
-    = λ row. rw (all_of, c.deref_mut.ensures.value, ← c.self.view_is) (all_trees (truth_on (g.C.Cells.cell row)) c.self.inside.steps.items) in
+    let same : (row : _) → joined false (take count (truths_before (truth_on (g.S.Scan.cell c.args.scan.now row)) steps count)) ≡ holds (truth_on (g.S.Scan.cell c.args.scan.now row)) c.args.self.now
+    = λ row. rw (all_of, c.deref_mut.ensures.value, ← c.self.view_is) (all_trees (truth_on (g.S.Scan.cell c.args.scan.now row)) c.self.inside.steps.items) in
     take_at new _ c.in_ok-marks.marks.len (c.keep_all.auto.marks ∙ c.deref_mut-2.ensures.len)
-    ∙ marks_of_all (λ row. holds (truth_on (g.C.Cells.cell row)) c.args.self.now) rows old new long all
-    (kept_same (λ row. joined false (take count (truths_before (truth_on (g.C.Cells.cell row)) steps count))) rows _ old new same c.in_ok-keep_all.ensures.kept)
+    ∙ marks_of_all (λ row. holds (truth_on (g.S.Scan.cell c.args.scan.now row)) c.args.self.now) rows old new long all
+    (kept_same (λ row. joined false (take count (truths_before (truth_on (g.S.Scan.cell c.args.scan.now row)) steps count))) rows _ old new same c.in_ok-keep_all.ensures.kept)
