@@ -2,10 +2,10 @@
 use Rattle.std.specs.Prelude.{ℕ, List, [], ◌∷◌, ◌++◌, map}
 use Rattle.lq_schema.specs.Value.{Value}
 use Rattle.lq_output.specs.Cells.{cell_text, joined}
-use Rattle.lq_output.specs.declared.layout.Format.{Format}
-use Rattle.lq_output.specs.declared.layout.Format.TheVariants as format
+use Rattle.lq_records.specs.declared.format.Format.{Format}
+use Rattle.lq_records.specs.declared.format.Format.TheVariants as format
 use Rattle.lq_output.specs.declared.layout.Layout.{Layout}
-use Rattle.lq_output.specs.declared.layout.Separators.{Separators}
+use Rattle.lq_records.specs.declared.format.Separators.{Separators}
 
 -- what stands around lines and cells, and between them
 pub record Marks : Type 0 where
@@ -27,7 +27,7 @@ marks_in format.Csv separators = record {
   line_end = separators.row ∷ [];
   finish = [];
 }
-marks_in format.QuotedCsv separators = record {
+marks_in format.Quoted separators = record {
   start = [];
   between_lines = [];
   line_start = [];

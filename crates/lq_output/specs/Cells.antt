@@ -4,18 +4,15 @@ use Rattle.std.specs.Prelude.{ℕ, Bool, ◌||◌, ◌==◌, List, [], ◌∷◌
 use Rattle.std.specs.List.{flat_map, list_any}
 use Rattle.std.specs.Fmt.{decimal, signed_decimal}
 use Rattle.json.specs.Print.{quoted}
-use Rattle.lq_schema.specs.Value.{Value, Number, Words, Texts, Numbers, Pairs}
-use Rattle.lq_output.specs.declared.layout.Format.{Format}
-use Rattle.lq_output.specs.declared.layout.Format.TheVariants as format
+use Rattle.lq_schema.specs.Value.{Value, Number, Millionths, Words, Texts, Numbers, Pairs}
+use Rattle.lq_records.specs.Micros.{micro_text}
+use Rattle.lq_records.specs.declared.format.Format.{Format}
+use Rattle.lq_records.specs.declared.format.Format.TheVariants as format
 use Rattle.lq_output.specs.declared.layout.Layout.{Layout}
-use Rattle.lq_output.specs.declared.layout.Separators.{Separators}
+use Rattle.lq_records.specs.declared.format.Separators.{Separators}
 
 -- In this file and the others 10 is a line feed, 13 a carriage return, 34 `"`, 44 `,`, 59 `;`,
 -- 91 `[`, 93 `]` and 124 `|`.
-
--- the separators of a query that names none
-abbrev pub usual_separators : Separators
-usual_separators = record { row = 10; column = 59; list = 44; pair = 124 }
 
 -- texts with the same text between them
 abbrev pub joined : List ℕ → List (List ℕ) → List ℕ
@@ -31,6 +28,7 @@ pair_text separator pair = pair.0 ++ separator ∷ pair.1
 -- a value with nothing quoted, by the separators of lists and of pairs
 abbrev pub plain_text : ℕ → ℕ → Value → List ℕ
 plain_text list pair (Number number) = signed_decimal number
+plain_text list pair (Millionths number) = micro_text number
 plain_text list pair (Words text) = text
 plain_text list pair (Texts texts) = joined (list ∷ []) texts
 plain_text list pair (Numbers numbers) = joined (list ∷ []) (map decimal numbers)
@@ -53,6 +51,7 @@ field text = if list_any is_special text then 34 ∷ (flat_map doubled text ++ 3
 -- the items of a list have `,` between them, the parts of a pair `|`; digits need no quotes
 abbrev pub field_text : Value → List ℕ
 field_text (Number number) = signed_decimal number
+field_text (Millionths number) = micro_text number
 field_text (Words text) = field text
 field_text (Texts texts) = field (plain_text 44 124 (Texts texts))
 field_text (Numbers numbers) = field (plain_text 44 124 (Numbers numbers))
@@ -71,6 +70,7 @@ json_pair pair = json_list (quoted pair.0 ∷ quoted pair.1 ∷ [])
 -- a text is what `serde_json` writes of it
 abbrev pub json_text : Value → List ℕ
 json_text (Number number) = signed_decimal number
+json_text (Millionths number) = micro_text number
 json_text (Words text) = quoted text
 json_text (Texts texts) = json_list (map quoted texts)
 json_text (Numbers numbers) = json_list (map decimal numbers)
@@ -80,7 +80,7 @@ json_text (Pairs pairs) = json_list (map json_pair pairs)
 
 abbrev pub text_in : Format → Separators → Value → List ℕ
 text_in format.Csv separators value = plain_text separators.list separators.pair value
-text_in format.QuotedCsv separators value = field_text value
+text_in format.Quoted separators value = field_text value
 text_in format.Json separators value = json_text value
 
 -- the text of a cell

@@ -5,10 +5,10 @@ ghost use Rattle.lq_output.specs.CellValue.{value_of};
 
 use crate::fields::{push_field, push_field_of};
 use crate::json_text::{push_json, push_string};
-use crate::layout::{Format, Layout};
+use crate::layout::Layout;
 use crate::number::push_number;
 use crate::plain::push_plain;
-use lq_records::Memory;
+use lq_records::{Format, Memory};
 use lq_schema::Val;
 
 /// What a cell shows. A number and a text need no value made of them.
@@ -40,7 +40,7 @@ fn push_text(out: &mut Vec<u8>, layout: Layout, text: &str) -> Result<(), Memory
 {
     match layout.format {
         Format::Csv => out.extend_from_slice(text.as_bytes()),
-        Format::QuotedCsv => push_field(out, text.as_bytes()),
+        Format::Quoted => push_field(out, text.as_bytes()),
         Format::Json => push_string(out, text),
     }
 }
@@ -52,7 +52,7 @@ fn push_value(out: &mut Vec<u8>, layout: Layout, value: &Val<'_>) -> Result<(), 
     let separators = layout.separators;
     match layout.format {
         Format::Csv => push_plain(out, separators.list, separators.pair, value),
-        Format::QuotedCsv => push_field_of(out, value),
+        Format::Quoted => push_field_of(out, value),
         Format::Json => push_json(out, value),
     }
 }

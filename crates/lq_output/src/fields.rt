@@ -3,7 +3,7 @@ ghost use Rattle.std.specs.List.{flat_map, list_any};
 ghost use Rattle.lq_schema.specs.Value.{shown};
 ghost use Rattle.lq_output.specs.Cells.{doubled, field, field_text, is_special, plain_text};
 
-use crate::number::push_number;
+use crate::number::{push_micro, push_number};
 use crate::plain::push_plain;
 use lq_records::Memory;
 use lq_schema::Val;
@@ -15,6 +15,7 @@ pub fn push_field_of(out: &mut Vec<u8>, value: &Val<'_>) -> Result<(), Memory>
 {
     match value {
         Val::Int(number) => push_number(out, *number),
+        Val::Micro(micro) => push_micro(out, *micro),
         Val::Str(text) => push_field(out, text.as_bytes()),
         Val::Own(text) => push_field(out, text.as_str().as_bytes()),
         Val::List(_) | Val::Nums(_) | Val::Pairs(_) => push_list(out, value),

@@ -6,7 +6,7 @@ ghost use Rattle.lq_schema.specs.Value.{shown};
 ghost use Rattle.lq_output.specs.Cells.{joined, json_list, json_pair, json_text};
 ghost use Rattle.lq_output.specs.Escapes.{is_plain};
 
-use crate::number::push_number;
+use crate::number::{push_micro, push_number};
 use crate::plain::push_numbers;
 use lq_records::{Memory, Text};
 use lq_schema::Val;
@@ -18,6 +18,7 @@ pub fn push_json(out: &mut Vec<u8>, value: &Val<'_>) -> Result<(), Memory>
 {
     match value {
         Val::Int(number) => push_number(out, *number),
+        Val::Micro(micro) => push_micro(out, *micro),
         Val::Str(text) => push_string(out, text),
         Val::List(texts) => push_strings(out, texts.as_slice()),
         Val::Nums(numbers) => push_number_list(out, numbers.as_slice()),

@@ -1,43 +1,4 @@
-/// The format of a body.
-#[derive(Clone, Copy, Debug, PartialEq, Eq)]
-pub enum Format {
-    /// `csv`: separators of one byte, and nothing quoted.
-    Csv,
-    /// `CSV`: the fields and lines of RFC 4180.
-    QuotedCsv,
-    /// `json`: a list of lists.
-    Json,
-}
-
-/// The separators of the format `csv`, each one byte. No other format has them.
-#[derive(Clone, Copy, Debug, PartialEq, Eq)]
-pub struct Separators {
-    /// What ends a line.
-    pub row: u8,
-    /// What stands between cells.
-    pub column: u8,
-    /// What stands between the items of a list.
-    pub list: u8,
-    /// What stands between a service's host and its description.
-    pub pair: u8,
-}
-
-impl Default for Separators {
-    ghost use Rattle.std.specs.Prelude.{◌≡◌};
-    ghost use Rattle.lq_output.specs.Cells.{usual_separators};
-
-    ghost is_default = { λ separators. separators ≡ usual_separators };
-
-    /// A line feed, `;`, `,` and `|`.
-    fn default() -> Separators {
-        Separators {
-            row: b'\n',
-            column: b';',
-            list: b',',
-            pair: b'|',
-        }
-    }
-}
+use lq_records::{Format, Separators};
 
 /// How a body is laid out.
 #[derive(Clone, Copy)]

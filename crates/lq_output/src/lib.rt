@@ -14,5 +14,4 @@ mod writer;
 
 pub use error::WriteErr;
 pub use header::{fixed16, refusal};
-pub use layout::{Format, Separators};
 pub use writer::{BODY_LIMIT, Writer};

@@ -2,15 +2,15 @@ ghost use Rattle.std.specs.Prelude.{◌≡◌, ◌+◌, ◌++◌, OnOk, OnErr, l
 ghost use Rattle.lq_output.specs.Body.{marks_of};
 ghost use Rattle.lq_output.specs.Writing.{gap_of_cell};
 
-use crate::layout::{Format, Layout};
-use lq_records::Memory;
+use crate::layout::Layout;
+use lq_records::{Format, Memory};
 
 /// Adds what a body begins with. The only error is out of memory.
 pub fn push_start(out: &mut Vec<u8>, layout: Layout) -> Result<(), Memory>
     ensures { OnOk result (out.new.items ≡ out.old.items ++ (marks_of layout).start) }
 {
     match layout.format {
-        Format::Csv | Format::QuotedCsv => Ok(()),
+        Format::Csv | Format::Quoted => Ok(()),
         Format::Json => Ok(out.push(b'[')?),
     }
 }
@@ -28,8 +28,8 @@ pub fn push_gap(
 {
     match layout.format {
         Format::Csv if has_cell => Ok(out.push(layout.separators.column)?),
-        Format::QuotedCsv if has_cell => Ok(out.push(b',')?),
-        Format::Csv | Format::QuotedCsv => Ok(()),
+        Format::Quoted if has_cell => Ok(out.push(b',')?),
+        Format::Csv | Format::Quoted => Ok(()),
         Format::Json if has_cell => Ok(out.push(b',')?),
         Format::Json if has_line => out.extend_from_slice(b",\n["),
         Format::Json => Ok(out.push(b'[')?),
@@ -43,7 +43,7 @@ pub fn push_line_end(out: &mut Vec<u8>, layout: Layout) -> Result<(), Memory>
 {
     match layout.format {
         Format::Csv => Ok(out.push(layout.separators.row)?),
-        Format::QuotedCsv => out.extend_from_slice(b"\r\n"),
+        Format::Quoted => out.extend_from_slice(b"\r\n"),
         Format::Json => Ok(out.push(b']')?),
     }
 }
@@ -53,7 +53,7 @@ pub fn push_finish(out: &mut Vec<u8>, layout: Layout) -> Result<(), Memory>
     ensures { OnOk result (out.new.items ≡ out.old.items ++ (marks_of layout).finish) }
 {
     match layout.format {
-        Format::Csv | Format::QuotedCsv => Ok(()),
+        Format::Csv | Format::Quoted => Ok(()),
         Format::Json => out.extend_from_slice(b"]\n"),
     }
 }
@@ -64,7 +64,7 @@ pub fn ending_len(layout: Layout) -> usize
 {
     match layout.format {
         Format::Csv => 1,
-        Format::QuotedCsv => 2,
+        Format::Quoted => 2,
         Format::Json => 3,
     }
 }

@@ -1,8 +1,9 @@
 ghost use Rattle.std.specs.Prelude.{◌≡◌, ◌++◌, OnOk};
 ghost use Rattle.std.specs.Fmt.{decimal, signed_decimal};
+ghost use Rattle.lq_records.specs.Micros.{micro_text};
 
 use itoa::Buffer;
-use lq_records::Memory;
+use lq_records::{Memory, Micro};
 
 /// Adds the digits of a number, after a `-` where it is below 0. It takes no memory but the text's.
 #[inline]
@@ -42,4 +43,13 @@ fn push_wide(out: &mut Vec<u8>, number: i128) -> Result<(), Memory>
 {
     let mut digits = Buffer::new();
     out.extend_from_slice(digits.format(number).as_bytes())
+}
+
+/// Adds the text of an average. It is rare, so that it may have a text of its own.
+#[inline(never)]
+pub fn push_micro(out: &mut Vec<u8>, micro: Micro) -> Result<(), Memory>
+    ensures { OnOk result (out.new.items ≡ out.old.items ++ micro_text micro.millionths) }
+{
+    let text = micro.to_string(*out.allocator())?;
+    out.extend_from_slice(text.as_bytes())
 }

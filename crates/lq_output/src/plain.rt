@@ -3,7 +3,7 @@ ghost use Rattle.std.specs.Fmt.{decimal};
 ghost use Rattle.lq_schema.specs.Value.{shown};
 ghost use Rattle.lq_output.specs.Cells.{joined, pair_text, plain_text};
 
-use crate::number::{push_number, push_unsigned};
+use crate::number::{push_micro, push_number, push_unsigned};
 use lq_records::{Memory, Text};
 use lq_schema::Val;
 
@@ -15,6 +15,7 @@ pub fn push_plain(out: &mut Vec<u8>, list: u8, pair: u8, value: &Val<'_>) -> Res
 {
     match value {
         Val::Int(number) => push_number(out, *number),
+        Val::Micro(micro) => push_micro(out, *micro),
         Val::Str(text) => out.extend_from_slice(text.as_bytes()),
         Val::List(texts) => push_texts(out, list, texts.as_slice()),
         Val::Nums(numbers) => push_numbers(out, list, numbers.as_slice()),

@@ -6,9 +6,9 @@ ghost use Rattle.lq_output.specs.Writing.{AddsCell, EndsLine, IsTextOfLines, IsT
 
 use crate::cell::{Cell, push_cell};
 use crate::error::WriteErr;
-use crate::layout::{Format, Layout, Separators};
+use crate::layout::Layout;
 use crate::marks::{ending_len, push_finish, push_gap, push_line_end, push_start};
-use lq_records::{Items, Memory};
+use lq_records::{Format, Items, Memory, Separators};
 use lq_schema::Val;
 use std::alloc::Global;
 use std::marker::Model;
