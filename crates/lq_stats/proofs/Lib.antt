@@ -1,0 +1,6 @@
+pub mod KeyLemmas
+pub mod ValueLemmas
+pub mod GroupLemmas
+pub mod RowLemmas
+pub mod StatsLemmas
+pub mod BoundLemmas

@@ -1,0 +1,4 @@
+pub mod Groups
+pub mod Keys
+pub mod Totals
+pub mod Grouped
