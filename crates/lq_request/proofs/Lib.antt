@@ -1,4 +1,6 @@
+pub mod ColumnLemmas
 pub mod CutLemmas
+pub mod EntryLemmas
 pub mod ExtentLemmas
 pub mod FrontLemmas
 pub mod ListLemmas

@@ -1,12 +1,13 @@
 -- What the lines `Filter`, `And`, `Or` and `Negate` add to a query, or why one of them is refused.
-use Rattle.std.specs.Prelude.{ℕ, ◌==◌, ◌&&◌, nat_le, nat_lt, Bool, Option, Some, None, Result, Ok, Err, List, [], ◌∷◌, ◌++◌, length, if◌then◌else◌}
+use Rattle.std.specs.Prelude.{ℕ, ◌+◌, ◌==◌, ◌&&◌, nat_le, nat_lt, not, Bool, Option, Some, None, Result, Ok, Err, List, [], ◌∷◌, ◌++◌, length, if◌then◌else◌}
 use Rattle.std.specs.List.{after_first, before_first}
 use Rattle.lq_text.specs.Blanks.{is_blank, without_end, without_front}
 use Rattle.lq_schema.specs.Schema.{column_of}
 use Rattle.lq_schema.specs.declared.columns.Col.{Col}
 use Rattle.lq_schema.specs.declared.columns.Table.{Table}
 use Rattle.lq_filter.specs.Reading.{test_read}
-use Rattle.lq_filter.specs.Trees.{has_pattern, height, pattern_count}
+use Rattle.lq_filter.specs.Tests.{asks_for_pattern}
+use Rattle.lq_filter.specs.Trees.{height}
 use Rattle.lq_filter.specs.declared.header.Header.{Header}
 use Rattle.lq_filter.specs.declared.header.Header.TheVariants as filter_header
 use Rattle.lq_filter.specs.declared.read.Test.{Test}
@@ -62,21 +63,24 @@ test_of table name words =
     if length words.operator == 0 then Err (reason.BadValue name)
     else test_on words (column_of table words.column)
 
--- ---- the headers of the filter
+-- ---- patterns
 
 -- the most patterns that a query may have
 abbrev pub most_patterns : ℕ
 most_patterns = 16
 
+-- How many patterns a query has with one more test. A test that brings one more than a query may
+-- have is refused.
+abbrev pub patterns_with : ℕ → Test → Result ℕ Reason
+patterns_with patterns test =
+    if not (asks_for_pattern test.check.property) then Ok patterns
+    else if nat_lt patterns most_patterns then Ok (patterns + 1)
+    else Err reason.TooManyPatterns
+
+-- ---- the headers of the filter
+
 abbrev pub with_filter_header : List Header → Header → List Header
 with_filter_header headers header = headers ++ header ∷ []
-
--- a test that brings a pattern more than a query may have is refused
-abbrev pub with_test : List Header → Test → Result (List Header) Reason
-with_test headers test =
-    if has_pattern (filter_header.Test test) && nat_le most_patterns (pattern_count headers)
-    then Err reason.TooManyPatterns
-    else Ok (with_filter_header headers (filter_header.Test test))
 
 -- `And` and `Or` join the last filters, one at least; no more than there are
 abbrev pub with_join : List ℕ → Bool → List Header → ℕ → Result (List Header) Reason

@@ -8,8 +8,15 @@ use Rattle.lq_schema.specs.Schema.{column_of}
 use Rattle.lq_schema.specs.declared.columns.Col.{Col}
 use Rattle.lq_schema.specs.declared.columns.Table.{Table}
 use Rattle.lq_filter.specs.declared.header.Header.{Header}
-use Rattle.lq_request.specs.Filters.{test_of, test_words, with_join, with_negation, with_test}
+use Rattle.lq_filter.specs.declared.header.Header.TheVariants as filter_header
+use Rattle.lq_filter.specs.declared.read.Test.{Test}
+use Rattle.lq_request.specs.Filters.{patterns_with, test_of, test_words, with_filter_header, with_join, with_negation}
+use Rattle.lq_request.specs.Formats.{format_value, separators_value}
 use Rattle.lq_request.specs.Numbers.{number_value}
+use Rattle.lq_request.specs.Stats.{aggregate_entry, first_aggregate, with_joined, with_negated}
+use Rattle.lq_request.specs.declared.aggregate.Aggregate.{Aggregate}
+use Rattle.lq_request.specs.declared.entry.StatDraft.{StatDraft}
+use Rattle.lq_request.specs.declared.entry.StatDraft.TheVariants as stat_draft
 use Rattle.lq_request.specs.declared.header.Draft.{Draft}
 use Rattle.lq_request.specs.declared.reason.Reason.{Reason}
 use Rattle.lq_request.specs.declared.reason.Reason.TheVariants as reason
@@ -17,9 +24,9 @@ use Rattle.lq_request.specs.Style.{is_colon, switch_value}
 
 -- ---- values
 
--- a switch is `on` or `off`
-abbrev pub switch : List ℕ → List ℕ → Result Bool Reason
-switch name value = ok_or (switch_value value) (reason.BadValue name)
+-- a switch is the word that turns it on, or `off`
+abbrev pub switch : List ℕ → List ℕ → List ℕ → Result Bool Reason
+switch on name value = ok_or (switch_value on value) (reason.BadValue name)
 
 abbrev pub names_none : Table → List ℕ → Bool
 names_none table word = is_none (column_of table word)
@@ -70,33 +77,94 @@ with_columns name value draft =
     })
 
 -- a test is added to the filter
+abbrev pub with_test : Draft → Test → Result Draft Reason
+with_test draft test =
+    draft_by (patterns_with draft.patterns test) (λ patterns. record draft {
+      filter = with_filter_header draft.filter (filter_header.Test test);
+      patterns = patterns;
+    })
+
 abbrev pub with_test_value : List ℕ → List ℕ → Draft → Result Draft Reason
 with_test_value name value draft =
-    with_filter draft
-    (if_read (test_of draft.request.table name (test_words value)) (with_test draft.filter))
+    if_read (test_of draft.request.table name (test_words value)) (with_test draft)
 
 -- the last filters are joined
 abbrev pub with_join_value : List ℕ → Bool → List ℕ → Draft → Result Draft Reason
 with_join_value name any value draft =
     with_filter draft (if_read (number_value name value) (with_join name any draft.filter))
 
--- What a query says with one more header, of which this is the name and the value. The last switch
--- and the last limit decide. `Negate` has no value, and of `KeepAlive` the style speaks.
+-- an entry is added to the statistics
+abbrev pub with_entry : Draft → Result StatDraft Reason → Result Draft Reason
+with_entry draft entry =
+    draft_by entry (λ more. record draft { stats = draft.stats ++ more ∷ [] })
+
+-- the rows of a test are counted
+abbrev pub with_count : Draft → Test → Result Draft Reason
+with_count draft test =
+    draft_by (patterns_with draft.patterns test) (λ patterns. record draft {
+      stats = draft.stats ++ stat_draft.Count (filter_header.Test test ∷ []) ∷ [];
+      patterns = patterns;
+    })
+
+abbrev pub with_stats_by : List ℕ → List ℕ → Option Aggregate → Draft → Result Draft Reason
+with_stats_by name value (Some aggregate) draft =
+    with_entry draft (aggregate_entry draft.request.table name aggregate (words_of value))
+with_stats_by name value None draft =
+    if_read (test_of draft.request.table name (test_words value)) (with_count draft)
+
+-- a value whose first word is an aggregate's is one; any other is a filter, which counts
+abbrev pub with_stats_value : List ℕ → List ℕ → Draft → Result Draft Reason
+with_stats_value name value draft =
+    with_stats_by name value (first_aggregate (words_of value)) draft
+
+-- the draft with other entries of its statistics
+abbrev pub with_stats : Draft → Result (List StatDraft) Reason → Result Draft Reason
+with_stats draft entries = draft_by entries (λ stats. record draft { stats = stats })
+
+-- the last entries are joined
+abbrev pub with_stats_join : List ℕ → Bool → List ℕ → Draft → Result Draft Reason
+with_stats_join name any value draft =
+    with_stats draft (if_read (number_value name value) (with_joined name any draft.stats))
+
+-- What a query says with one more header, of which this is the name and the value. Columns, filters
+-- and entries are added; of other headers the last decides. `Negate` and `StatsNegate` have no
+-- value, of `KeepAlive` and `ResponseHeader` the style speaks, and `Localtime` and `Timelimit` say
+-- nothing.
 unfoldable pub with_header : List ℕ → List ℕ → Draft → Result Draft Reason
 with_header name value draft =
     if bytes_eq name (codes "Columns") then with_columns name value draft
     else if bytes_eq name (codes "ColumnHeaders")
-    then draft_by (switch name value) (λ on. record draft { names = Some on })
-    else if bytes_eq name (codes "KeepAlive") then draft_by (switch name value) (λ on. draft)
+    then draft_by (switch (codes "on") name value) (λ on. record draft { names = Some on })
     else if bytes_eq name (codes "Filter") then with_test_value name value draft
     else if bytes_eq name (codes "And") then with_join_value name false value draft
     else if bytes_eq name (codes "Or") then with_join_value name true value draft
     else if bytes_eq name (codes "Negate")
     then with_filter draft (with_negation name draft.filter)
+    else if bytes_eq name (codes "Stats") then with_stats_value name value draft
+    else if bytes_eq name (codes "StatsAnd") then with_stats_join name false value draft
+    else if bytes_eq name (codes "StatsOr") then with_stats_join name true value draft
+    else if bytes_eq name (codes "StatsNegate")
+    then with_stats draft (with_negated name draft.stats)
     else if bytes_eq name (codes "Limit")
     then draft_by (number_value name value) (λ limit. record draft {
       request = record draft.request { limit = Some limit };
     })
+    else if bytes_eq name (codes "OutputFormat")
+    then draft_by (format_value name value) (λ format. record draft {
+      request = record draft.request { format = format };
+    })
+    else if bytes_eq name (codes "Separators")
+    then draft_by (separators_value name value) (λ separators. record draft {
+      request = record draft.request { separators = separators };
+    })
+    else if bytes_eq name (codes "ResponseHeader")
+    then draft_by (switch (codes "fixed16") name value) (λ on. draft)
+    else if bytes_eq name (codes "KeepAlive")
+    then draft_by (switch (codes "on") name value) (λ on. draft)
+    else if bytes_eq name (codes "Localtime")
+    then draft_by (number_value name value) (λ number. draft)
+    else if bytes_eq name (codes "Timelimit")
+    then draft_by (number_value name value) (λ number. draft)
     else Err (reason.UnknownHeader name)
 
 -- ---- header lines

@@ -1,6 +1,7 @@
 pub mod Cutting
 pub mod Extent
 pub mod Filters
+pub mod Formats
 pub mod Headers
 pub mod Messages
 pub mod Numbers
@@ -8,5 +9,6 @@ pub mod Reading
 pub mod Reasons
 pub mod Request
 pub mod Search
+pub mod Stats
 pub mod Style
 pub mod Words

@@ -1,5 +1,5 @@
 -- What reading a message gives.
-use Rattle.std.specs.Prelude.{◌≡◌, Result, Ok, Err}
+use Rattle.std.specs.Prelude.{◌≡◌, ◌<◌, ◌≤◌, ◌+◌, Result, Ok, Err, length}
 use Rattle.lq_request.specs.Request.{Refused}
 use Rattle.lq_request.specs.declared.reason.Reason.{Reason}
 use Rattle.lq_request.specs.declared.fault.Fault.{Fault}
@@ -14,6 +14,15 @@ Reads (Ok request) asked = asked ≡ Ok request
 Reads (Err (error.Refused refusal fixed16 keep)) asked =
     asked ≡ Err (record { refusal = refusal; style = record { fixed16 = fixed16; keep = keep } })
 Reads (Err error.Memory) asked = Unit {0}
+
+-- a refusal's code has three digits
+abbrev pub HasCode : ReadErr → Type 0
+HasCode (error.Refused refusal fixed16 keep) = (100 ≤ refusal.code) × (refusal.code ≤ 999)
+HasCode error.Memory = Unit {0}
+
+-- a request shows a column or a statistic
+abbrev pub ShowsCells : Request → Type 0
+ShowsCells request = 0 < length request.columns + length request.stats
 
 -- the same of a part of a message, which tells the reason alone
 abbrev pub Finds : {X : Type 0} → Result X Fault → Result X Reason → Type 0

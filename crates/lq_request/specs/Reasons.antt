@@ -17,6 +17,8 @@ refusal_of reason.TooManyHeaders = refusal_with 400 (codes "too many headers")
 refusal_of reason.NoColon = refusal_with 400 (codes "line without a colon")
 refusal_of (reason.UnknownHeader name) = refusal_with 400 (codes "unknown header: " ++ name)
 refusal_of (reason.BadValue name) = refusal_with 400 (codes "bad value for " ++ name)
+refusal_of (reason.AggregateUnsupported word) =
+    refusal_with 400 (codes "aggregate not supported: " ++ word)
 refusal_of (reason.UnknownColumn word) = refusal_with 450 (codes "unknown column: " ++ word)
 refusal_of (reason.UnknownOperator word) = refusal_with 400 (codes "unknown operator: " ++ word)
 refusal_of (reason.NotAllowed column) =
@@ -25,3 +27,4 @@ refusal_of (reason.NotNumber value) = refusal_with 400 (codes "not a number: " +
 refusal_of reason.BadPattern = refusal_with 400 (codes "bad pattern")
 refusal_of reason.TooManyPatterns = refusal_with 400 (codes "too many patterns")
 refusal_of (reason.StackTooShort name) = refusal_with 400 (codes "stack too short for " ++ name)
+refusal_of (reason.AggregateIn name) = refusal_with 400 (codes "aggregate in " ++ name)

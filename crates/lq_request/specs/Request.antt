@@ -1,11 +1,12 @@
 -- What a message asks, or why it is refused.
-use Rattle.std.specs.Prelude.{ℕ, true, false, Option, Some, None, unwrap_or, Result, Ok, Err, List, [], ◌∷◌, bytes_eq, codes, if◌then◌else◌}
+use Rattle.std.specs.Prelude.{ℕ, ◌==◌, ◌&&◌, Bool, false, length, map, Option, Some, None, unwrap_or, Result, Ok, Err, List, [], ◌∷◌, bytes_eq, codes, if◌then◌else◌}
 use Rattle.std.specs.Str.{is_utf8}
 use Rattle.lq_text.specs.Lines.{lines_of}
 use Rattle.lq_text.specs.Blanks.{words_of}
 use Rattle.lq_schema.specs.Schema.{table_of, columns_of}
-use Rattle.lq_schema.specs.declared.columns.Col.{Col}
 use Rattle.lq_schema.specs.declared.columns.Table.{Table}
+use Rattle.lq_records.specs.Formats.{usual_separators}
+use Rattle.lq_records.specs.declared.format.Format.TheVariants as format
 use Rattle.lq_records.specs.declared.refusal.Refusal.{Refusal}
 use Rattle.lq_request.specs.declared.request.Request.{Request}
 use Rattle.lq_request.specs.declared.style.Style.{Style}
@@ -14,6 +15,7 @@ use Rattle.lq_request.specs.declared.reason.Reason.{Reason}
 use Rattle.lq_request.specs.declared.reason.Reason.TheVariants as reason
 use Rattle.lq_request.specs.Headers.{header_lines}
 use Rattle.lq_request.specs.Reasons.{refusal_of}
+use Rattle.lq_request.specs.Stats.{entry_of}
 use Rattle.lq_request.specs.Style.{style_of}
 
 -- ---- the first line
@@ -46,31 +48,33 @@ plain style table = record {
     columns = [];
     head = false;
     filter = [];
+    stats = [];
     limit = None;
+    format = format.Csv;
+    separators = usual_separators;
     fixed16 = style.fixed16;
     keep = style.keep;
   };
   names = None;
   filter = [];
+  stats = [];
+  patterns = 0;
 }
 
--- The columns that are shown where lines name some, and whether a line of names comes first. Where
--- none is named, they are all, and the names are written unless a switch says otherwise; where one
--- is, they are written where a switch says so.
-abbrev pub shown_columns : Draft → List Col → Request
-shown_columns draft [] = record draft.request {
-  columns = columns_of draft.request.table;
-  head = unwrap_or draft.names true;
-  filter = draft.filter;
-}
-shown_columns draft (column ∷ columns) = record draft.request {
-  head = unwrap_or draft.names false;
-  filter = draft.filter;
-}
+-- whether no line names columns or statistics
+abbrev pub shows_all : Draft → Bool
+shows_all draft = length draft.request.columns == 0 && length draft.stats == 0
 
--- the request of a query that is read whole
+-- The request of a query that is read whole. Where no line names columns or statistics, all columns
+-- are shown, and the names are written unless a switch says otherwise; where one does, they are
+-- written where a switch says so.
 abbrev pub finished : Draft → Request
-finished draft = shown_columns draft draft.request.columns
+finished draft = record draft.request {
+  columns = if shows_all draft then columns_of draft.request.table else draft.request.columns;
+  head = unwrap_or draft.names (shows_all draft);
+  filter = draft.filter;
+  stats = map entry_of draft.stats;
+}
 
 abbrev pub asked_headers : Result Draft Reason → Result Request Reason
 asked_headers (Err fault) = Err fault

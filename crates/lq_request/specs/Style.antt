@@ -8,30 +8,33 @@ use Rattle.lq_request.specs.declared.style.Style.{Style}
 abbrev pub is_colon : ℕ → Bool
 is_colon byte = byte == 58
 
-abbrev pub switch_of : List ℕ → Option Bool
-switch_of word =
-    if bytes_eq word (codes "on") then Some true
+abbrev pub switch_of : List ℕ → List ℕ → Option Bool
+switch_of on word =
+    if bytes_eq word on then Some true
     else if bytes_eq word (codes "off") then Some false
     else None
 
--- a switch is `on` or `off`, with or without blanks around it
-unfoldable pub switch_value : List ℕ → Option Bool
-switch_value value = switch_of (trimmed value)
+-- what a switch says: it is the word that turns it on, or `off`, with or without blanks around it
+unfoldable pub switch_value : List ℕ → List ℕ → Option Bool
+switch_value on value = switch_of on (trimmed value)
 
-abbrev pub keep_at : List ℕ → Option ℕ → Option Bool
-keep_at line None = None
-keep_at line (Some colon) =
-    if bytes_eq (take colon line) (codes "KeepAlive") then switch_value (drop (colon + 1) line)
-    else None
+abbrev pub switch_at : List ℕ → List ℕ → List ℕ → Option ℕ → Option Bool
+switch_at name on line None = None
+switch_at name on line (Some colon) =
+    if bytes_eq (take colon line) name then switch_value on (drop (colon + 1) line) else None
 
--- what a line says of the connection: something where it is a well-formed `KeepAlive` line
-unfoldable pub keep_of : List ℕ → Option Bool
-keep_of line = keep_at line (position is_colon line)
+-- what a line says of a switch with a name: something where it is a well-formed line of that name
+unfoldable pub switch_of_line : List ℕ → List ℕ → List ℕ → Option Bool
+switch_of_line name on line = switch_at name on line (position is_colon line)
 
--- the last well-formed `KeepAlive` line of all lines decides; without one the connection ends
-unfoldable pub keep_of_lines : List (List ℕ) → Bool
-keep_of_lines lines = unwrap_or (last_or None (filter_map keep_of lines)) false
+-- what the last well-formed line of that name says among all lines; without one the switch is off
+unfoldable pub last_switch : List ℕ → List ℕ → List (List ℕ) → Bool
+last_switch name on lines =
+    unwrap_or (last_or None (filter_map (switch_of_line name on) lines)) false
 
--- the style that a message asks for; no header yet asks for a fixed line of 16 bytes
+-- the style that a message asks for
 unfoldable pub style_of : List ℕ → Style
-style_of message = record { fixed16 = false; keep = keep_of_lines (lines_of message) }
+style_of message = record {
+  fixed16 = last_switch (codes "ResponseHeader") (codes "fixed16") (lines_of message);
+  keep = last_switch (codes "KeepAlive") (codes "on") (lines_of message);
+}

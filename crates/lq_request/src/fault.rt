@@ -1,7 +1,9 @@
-ghost use Rattle.std.specs.Prelude.{◌≡◌};
+ghost use Rattle.std.specs.Prelude.{◌≡◌, ok_or};
+ghost use Rattle.lq_request.specs.Reading.{Finds};
 
 use crate::reason::Reason;
-use std::alloc::AllocError;
+use lq_records::Text;
+use std::alloc::{AllocError, Global};
 
 /// Why a part of a message can't be read.
 #[derive(Drop)]
@@ -19,5 +21,15 @@ impl From<AllocError> for Fault {
 
     fn from(_: AllocError) -> Self {
         Fault::Memory
+    }
+}
+
+/// What the value of the header with this name says; None stands for one that isn't well formed.
+pub fn well_formed<T>(alloc: Global, name: &str, said: Option<T>) -> Result<T, Fault>
+    ensures { Finds result (ok_or said (Reason.BadValue name.now)) }
+{
+    match said {
+        Some(said) => Ok(said),
+        None => Err(Fault::Refused(Reason::BadValue(Text::new(alloc, name)?))),
     }
 }

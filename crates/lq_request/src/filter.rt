@@ -1,5 +1,5 @@
 ghost use Rattle.std.specs.Prelude.{◌≡◌};
-ghost use Rattle.lq_request.specs.Filters.{test_of, test_words, with_negation};
+ghost use Rattle.lq_request.specs.Filters.{patterns_with, test_of, test_words, with_negation};
 ghost use Rattle.lq_request.specs.Headers.{with_filter, with_join_value, with_test_value};
 ghost use Rattle.lq_request.specs.Reading.{Finds, Leaves};
 
@@ -75,15 +75,34 @@ impl<'a> TestWords<'a> {
     }
 }
 
+/// The test that the value of a header says on a table.
+pub fn test_value(alloc: Global, table: Table, name: &str, value: &str) -> Result<Test, Fault>
+    ensures { Finds result (test_of table name.now (test_words value.now)) }
+{
+    TestWords::of(value).test(alloc, table, name)
+}
+
+/// How many patterns a query has with one more test.
+pub fn patterns_with(patterns: usize, test: &Test) -> Result<usize, Fault>
+    ensures { Finds result (patterns_with patterns test.now) }
+{
+    if !test.has_pattern() {
+        return Ok(patterns);
+    }
+    if patterns < MOST_PATTERNS {
+        Ok(patterns + 1)
+    } else {
+        Err(Fault::Refused(Reason::TooManyPatterns))
+    }
+}
+
 impl Draft {
     /// Adds the test of a `Filter` line.
     pub(crate) fn add_test(&mut self, alloc: Global, name: &str, value: &str) -> Result<(), Fault>
         ensures { Leaves result self.new (with_test_value name.now value.now self.old) }
     {
-        let test = TestWords::of(value).test(alloc, self.request.table, name)?;
-        if test.has_pattern() && self.filter.pattern_count() >= MOST_PATTERNS {
-            return Err(Fault::Refused(Reason::TooManyPatterns));
-        }
+        let test = test_value(alloc, self.request.table, name, value)?;
+        self.patterns = patterns_with(self.patterns, &test)?;
         self.filter.push(test)?;
         Ok(())
     }

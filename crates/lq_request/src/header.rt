@@ -7,7 +7,9 @@ ghost use Rattle.lq_request.specs.Headers.{with_columns, with_header, with_heade
 ghost use Rattle.lq_request.specs.Reading.{Finds, Leaves};
 ghost use Rattle.lq_request.specs.Style.{is_colon};
 
-use crate::fault::Fault;
+use crate::entry::Entries;
+use crate::fault::{Fault, well_formed};
+use crate::format::{format_value, separators_value};
 use crate::number::number_value;
 use crate::reason::Reason;
 use crate::request::Request;
@@ -26,31 +28,48 @@ pub const MOST_HEADERS: usize = 256;
 /// ones that they name, and what they say of the line of names.
 #[derive(Drop)]
 pub struct Draft {
-    /// The request. Its fields `head` and `filter` say nothing yet.
+    /// The request. Its fields `head`, `filter` and `stats` say nothing yet.
     pub request: Request,
     /// Whether a line of the columns' names comes first, None where no line speaks of it.
     pub names: Option<bool>,
     /// The headers of the filter so far.
     pub filter: Stack,
+    /// The entries of the statistics so far.
+    pub stats: Entries,
+    /// How many patterns the lines so far look for.
+    pub patterns: usize,
 }
 
 impl Draft {
-    /// Adds what one more header says. `KeepAlive` leaves all as it was: the style speaks of it.
+    /// Adds what one more header says. `ResponseHeader` and `KeepAlive` leave all as it was, since
+    /// the style speaks of them, and so do `Localtime` and `Timelimit`, which say nothing.
     #[tactic(auto, unfolding(crate::specs::Headers::with_header))]
     fn add(&mut self, alloc: Global, name: &str, value: &str) -> Result<(), Fault>
         ensures { Leaves result self.new (with_header name.now value.now self.old) }
     {
         match name {
             "Columns" => self.add_columns(alloc, name, value)?,
-            "ColumnHeaders" => self.names = Some(switch(alloc, name, value)?),
-            "KeepAlive" => {
-                switch(alloc, name, value)?;
-            }
+            "ColumnHeaders" => self.names = Some(switch(alloc, "on", name, value)?),
             "Filter" => self.add_test(alloc, name, value)?,
             "And" => self.join(alloc, name, false, value)?,
             "Or" => self.join(alloc, name, true, value)?,
             "Negate" => self.negate(alloc, name)?,
+            "Stats" => self.add_stats(alloc, name, value)?,
+            "StatsAnd" => self.join_stats(alloc, name, false, value)?,
+            "StatsOr" => self.join_stats(alloc, name, true, value)?,
+            "StatsNegate" => self.stats.negate(alloc, name)?,
             "Limit" => self.request.limit = Some(number_value(alloc, name, value)?),
+            "OutputFormat" => self.request.format = format_value(alloc, name, value)?,
+            "Separators" => self.request.separators = separators_value(alloc, name, value)?,
+            "ResponseHeader" => {
+                switch(alloc, "fixed16", name, value)?;
+            }
+            "KeepAlive" => {
+                switch(alloc, "on", name, value)?;
+            }
+            "Localtime" | "Timelimit" => {
+                number_value(alloc, name, value)?;
+            }
             _ => return Err(Fault::Refused(Reason::UnknownHeader(Text::new(alloc, name)?))),
         }
         Ok(())
@@ -122,14 +141,11 @@ pub fn header_lines(alloc: Global, draft: Draft, bytes: &[u8]) -> Result<Draft, 
     Ok(draft)
 }
 
-/// What the value of a switch says.
-fn switch(alloc: Global, name: &str, value: &str) -> Result<bool, Fault>
-    ensures { Finds result (switch name.now value.now) }
+/// What the value of a switch says, by the word that turns it on.
+fn switch(alloc: Global, on: &str, name: &str, value: &str) -> Result<bool, Fault>
+    ensures { Finds result (switch on.now name.now value.now) }
 {
-    match switch_value(value.as_bytes()) {
-        Some(on) => Ok(on),
-        None => Err(Fault::Refused(Reason::BadValue(Text::new(alloc, name)?))),
-    }
+    well_formed(alloc, name, switch_value(on, value.as_bytes()))
 }
 
 /// The columns that a value names, in order.

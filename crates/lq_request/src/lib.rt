@@ -1,18 +1,23 @@
 //! Messages: cutting them out of a connection's bytes, and reading what they ask.
 #![tactic(auto)]
 
+mod aggregate;
 mod cut;
+mod entry;
 mod extent;
 mod fault;
 mod filter;
+mod format;
 mod header;
 mod number;
 mod reason;
 mod request;
+mod stats;
 mod style;
 mod words;
 
 pub use cut::{Cut, Cutting, MESSAGE_LIMIT};
+pub use entry::StatEntry;
 pub use header::MOST_HEADERS;
 pub use request::{ReadErr, Request, read_request};
 pub use style::{Style, reply_style};

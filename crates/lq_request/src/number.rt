@@ -2,9 +2,7 @@ ghost use Rattle.std.specs.Prelude.{◌≡◌};
 ghost use Rattle.lq_request.specs.Numbers.{natural_read, number_value};
 ghost use Rattle.lq_request.specs.Reading.{Finds};
 
-use crate::fault::Fault;
-use crate::reason::Reason;
-use lq_records::Text;
+use crate::fault::{Fault, well_formed};
 use lq_text::{read_u64, trim};
 use std::alloc::Global;
 
@@ -12,14 +10,11 @@ use std::alloc::Global;
 pub fn number_value(alloc: Global, name: &str, value: &str) -> Result<u64, Fault>
     ensures { Finds result (number_value name.now value.now) }
 {
-    match natural(trim(value.as_bytes())) {
-        Some(number) => Ok(number),
-        None => Err(Fault::Refused(Reason::BadValue(Text::new(alloc, name)?))),
-    }
+    well_formed(alloc, name, natural(trim(value.as_bytes())))
 }
 
 /// The number that digits say, where it has 64 bits.
-fn natural(digits: &[u8]) -> Option<u64>
+pub fn natural(digits: &[u8]) -> Option<u64>
     ensures { result ≡ natural_read digits.now }
 {
     read_u64(digits)

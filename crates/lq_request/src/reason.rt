@@ -1,4 +1,4 @@
-ghost use Rattle.std.specs.Prelude.{◌≡◌, ◌++◌, IfOk};
+ghost use Rattle.std.specs.Prelude.{◌≡◌, ◌≤◌, ◌++◌, IfOk};
 ghost use Rattle.lq_request.specs.Reasons.{refusal_of};
 
 use lq_records::{Memory, Refusal, Text};
@@ -25,11 +25,14 @@ pub enum Reason {
     UnknownHeader(Text),
     /// The value of the header with this name isn't well formed.
     BadValue(Text),
+    /// No statistics give the aggregate with this word.
+    AggregateUnsupported(Text),
     /// No column of the table has this name.
     UnknownColumn(Text),
     /// A test has a word that is no operator.
     UnknownOperator(Text),
-    /// The operator of a test isn't one for the column with this name, or not with its value.
+    /// The operator of a test isn't one for the column with this name, or not with its value, or
+    /// the column has no numbers for an aggregate.
     NotAllowed(Text),
     /// A test compares a column of numbers with this.
     NotNumber(Text),
@@ -37,8 +40,10 @@ pub enum Reason {
     BadPattern,
     /// There are more patterns than a query may have.
     TooManyPatterns,
-    /// The header with this name takes more filters than stand, or none.
+    /// The header with this name takes more filters or entries than stand, or none.
     StackTooShort(Text),
+    /// The header with this name takes an entry that is an aggregate.
+    AggregateIn(Text),
 }
 
 /// A refusal by its parts: its code, the front of its text, and the word that follows it.
@@ -47,6 +52,7 @@ struct Parts<'a>(u16, &'static str, &'a str);
 impl Reason {
     fn parts(&self) -> Parts<'_>
         ensures code { result.0 ≡ (refusal_of self.now).code }
+        ensures digits { (100 ≤ result.0) × (result.0 ≤ 999) }
         ensures text { result.1.now ++ result.2.now ≡ (refusal_of self.now).text }
     {
         match self {
@@ -59,6 +65,9 @@ impl Reason {
             Reason::NoColon => Parts(400, "line without a colon", ""),
             Reason::UnknownHeader(name) => Parts(400, "unknown header: ", name.as_str()),
             Reason::BadValue(name) => Parts(400, "bad value for ", name.as_str()),
+            Reason::AggregateUnsupported(word) => {
+                Parts(400, "aggregate not supported: ", word.as_str())
+            }
             Reason::UnknownColumn(word) => Parts(450, "unknown column: ", word.as_str()),
             Reason::UnknownOperator(word) => Parts(400, "unknown operator: ", word.as_str()),
             Reason::NotAllowed(column) => {
@@ -68,12 +77,15 @@ impl Reason {
             Reason::BadPattern => Parts(400, "bad pattern", ""),
             Reason::TooManyPatterns => Parts(400, "too many patterns", ""),
             Reason::StackTooShort(name) => Parts(400, "stack too short for ", name.as_str()),
+            Reason::AggregateIn(name) => Parts(400, "aggregate in ", name.as_str()),
         }
     }
 
     /// The refusal that tells it. The only error is out of memory.
     pub fn refusal(&self, alloc: Global) -> Result<Refusal, Memory>
-        ensures { IfOk result (λ refusal. refusal ≡ refusal_of self.now) }
+        ensures same { IfOk result (λ refusal. refusal ≡ refusal_of self.now) }
+        ensures digits { IfOk result
+            (λ refusal. (100 ≤ refusal.code) × (refusal.code ≤ 999)) }
     {
         let Parts(code, front, word) = self.parts();
         let mut text = String::from_str(alloc, front)?;

@@ -1,18 +1,22 @@
-ghost use Rattle.std.specs.Prelude.{◌≡◌, IfOk, map};
+ghost use Rattle.std.specs.Prelude.{◌≡◌, ◌<◌, All, IfErr, IfOk, length, map};
 ghost use Rattle.std.specs.List.{AllByRecursion};
 ghost use Rattle.std.specs.Str.{IsUtf8};
+ghost use Rattle.lq_text.specs.Lines.{lines_of};
 ghost use Rattle.lq_schema.specs.Schema.{columns_of};
-ghost use Rattle.lq_request.specs.Reading.{Finds, Reads};
-ghost use Rattle.lq_request.specs.Request.{asked, asked_in, finished, first_line, plain};
+ghost use Rattle.lq_request.specs.Headers.{header_lines};
+ghost use Rattle.lq_request.specs.Reading.{Finds, HasCode, Reads, ShowsCells};
+ghost use Rattle.lq_request.specs.Request.{asked, asked_headers, asked_in, finished, first_line, plain};
 ghost use Rattle.lq_request.specs.Request.{table_of_words};
+ghost use Rattle.lq_request.specs.Stats.{IsStat};
 
+use crate::entry::{Entries, StatEntry};
 use crate::fault::Fault;
 use crate::header::{Draft, header_lines};
 use crate::reason::Reason;
 use crate::style::{Style, reply_style};
 use crate::words::{as_text, is_text, words_of};
 use lq_filter::{Filter, Stack};
-use lq_records::{Base, Items, Memory, Refusal, Text};
+use lq_records::{Base, Format, Items, Memory, Refusal, Separators, Text};
 use lq_schema::{Col, Table, column_at, column_count, table};
 use lq_text::next_line;
 use std::alloc::{AllocError, Global};
@@ -22,17 +26,24 @@ use std::alloc::{AllocError, Global};
 pub struct Request {
     /// The table that is asked.
     pub table: Table,
-    /// The columns, in the order of the answer.
+    /// The columns, in the order of the answer; with statistics, those that rows have to have in
+    /// common to be counted together. Where no line names columns they are all, and none with
+    /// statistics.
     pub columns: Items<Col>,
     /// Whether a line of the columns' names comes first: what the last `ColumnHeaders` line says;
-    /// without one, true exactly where no columns are named.
+    /// without one, true exactly where no line names columns or statistics.
     pub head: bool,
     /// Which rows are shown.
     pub filter: Filter,
+    /// The statistics of the rows, in the order of their lines; none where rows are shown.
+    pub stats: Items<StatEntry>,
     /// How many rows are shown at most, the first ones. None where no `Limit` line says it.
     pub limit: Option<u64>,
-    /// Whether a line of 16 bytes with the code and the length comes first. It is always false so
-    /// far.
+    /// The format of the reply's body: what the last `OutputFormat` line says, else csv.
+    pub format: Format,
+    /// The separators of csv: what the last `Separators` line says, else the usual ones.
+    pub separators: Separators,
+    /// Whether a line of 16 bytes with the code and the length comes first.
     pub fixed16: bool,
     /// Whether the connection goes on after the reply.
     pub keep: bool,
@@ -58,14 +69,22 @@ pub enum ReadErr {
 /// `GET`; 451 `missing table name`; 404 `unknown table: <word>`; 400 `extra words after the table
 /// name`. Then the first header line with a fault does, and in it the first of these: 400 `not
 /// UTF-8`; `too many headers` in the 257th; `line without a colon`; `unknown header: <name>`; `bad
-/// value for <header>`; 450 `unknown column: <word>`; `unknown operator: <word>`; `operator not
-/// allowed for <column>`; `not a number: <value>`; `bad pattern`; `too many patterns` at the 17th;
-/// `stack too short for <header>`. A value is bad where `Columns` has no word, a switch isn't `on`
-/// or `off`, `And`, `Or` and `Limit` have no number of 64 bits, and `Filter` has no operator. Both
-/// have the style that `reply_style` gives.
+/// value for <header>`; `aggregate not supported: <word>`; 450 `unknown column: <word>`; `unknown
+/// operator: <word>`; `operator not allowed for <column>`, also for an aggregate of a column that
+/// has no numbers; `not a number: <value>`; `bad pattern`; `too many patterns` at the 17th of all
+/// lines `Filter` and `Stats`; `stack too short for <header>`; `aggregate in <header>`.
+///
+/// A value is bad where `Columns` has no word, a switch isn't `on` or `off`, `ResponseHeader` isn't
+/// `fixed16` or `off`, `OutputFormat` isn't `csv`, `CSV` or `json`, `Separators` isn't four numbers
+/// of 0 to 255, any other number hasn't 64 bits without a sign, `Filter` or `Stats` has no
+/// operator, or `Stats` has not exactly one word after that of an aggregate. All refusals have the
+/// style that `reply_style` gives.
 #[tactic(auto, unfolding(crate::specs::Request::asked))]
 pub fn read_request(alloc: Global, b: &[u8], _base: &Base) -> Result<Request, ReadErr>
-    ensures { Reads result (asked b.now) }
+    ensures asked { Reads result (asked b.now) }
+    ensures stats { IfOk result (λ request. All IsStat request.stats) }
+    ensures cells { IfOk result ShowsCells }
+    ensures code { IfErr result HasCode }
 {
     let style = reply_style(b);
     match asked_in(alloc, style, b) {
@@ -85,13 +104,24 @@ pub fn read_request(alloc: Global, b: &[u8], _base: &Base) -> Result<Request, Re
 /// What a message asks, replied to in a style.
 #[tactic(auto, unfolding(crate::specs::Request::asked_in))]
 fn asked_in(alloc: Global, style: Style, message: &[u8]) -> Result<Request, Fault>
-    ensures { Finds result (asked_in style message.now) }
+    ensures asked { Finds result (asked_in style message.now) }
+    ensures stats { IfOk result (λ request. All IsStat request.stats) }
+    ensures cells { IfOk result ShowsCells }
 {
     let Some((end, next)) = next_line(message, 0) else {
         return Err(Fault::Refused(Reason::InvalidRequest));
     };
     let table = first_line(alloc, &message[..end])?;
-    let draft = header_lines(alloc, plain(alloc, style, table), &message[next..])?;
+    asked_headers(alloc, plain(alloc, style, table), &message[next..])
+}
+
+/// What header lines ask beside a draft.
+fn asked_headers(alloc: Global, draft: Draft, bytes: &[u8]) -> Result<Request, Fault>
+    ensures asked { Finds result (asked_headers (header_lines 1 (lines_of bytes.now) draft)) }
+    ensures stats { IfOk result (λ request. All IsStat request.stats) }
+    ensures cells { IfOk result ShowsCells }
+{
+    let draft = header_lines(alloc, draft, bytes)?;
     Ok(finished(alloc, draft)?)
 }
 
@@ -105,12 +135,17 @@ fn plain(alloc: Global, style: Style, table: Table) -> Draft
             columns: Items::new(alloc),
             head: false,
             filter: Filter::everything(alloc),
+            stats: Items::new(alloc),
             limit: None,
+            format: Format::Csv,
+            separators: Separators::default(),
             fixed16: style.fixed16,
             keep: style.keep,
         },
         names: None,
         filter: Stack::new(alloc),
+        stats: Entries::new(alloc),
+        patterns: 0,
     }
 }
 
@@ -151,11 +186,14 @@ fn table_of_words(alloc: Global, words: &[&[u8]]) -> Result<Table, Fault>
 
 /// The request of a query that is read whole.
 fn finished(alloc: Global, draft: Draft) -> Result<Request, Memory>
-    ensures { IfOk result (λ request. request ≡ finished draft) }
+    ensures same { IfOk result (λ request. request ≡ finished draft) }
+    ensures stats { IfOk result (λ request. All IsStat request.stats) }
+    ensures cells { IfOk result ShowsCells }
 {
     let mut request = draft.request;
+    let shows_all = request.columns.is_empty() && draft.stats.is_empty();
     request.filter = draft.filter.finish()?;
-    let shows_all = request.columns.is_empty();
+    request.stats = draft.stats.finish(alloc)?;
     request.head = draft.names.unwrap_or(shows_all);
     if shows_all {
         request.columns = all_columns(alloc, request.table)?;
@@ -164,7 +202,8 @@ fn finished(alloc: Global, draft: Draft) -> Result<Request, Memory>
 }
 
 fn all_columns(alloc: Global, table: Table) -> Result<Items<Col>, Memory>
-    ensures { IfOk result (λ columns. columns ≡ columns_of table) }
+    ensures all { IfOk result (λ columns. columns ≡ columns_of table) }
+    ensures some { IfOk result (λ columns. 0 < length columns) }
 {
     let mut columns = Items::new(alloc);
     for i in 0..column_count(table) {

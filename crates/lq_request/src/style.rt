@@ -1,65 +1,65 @@
 ghost use Rattle.std.specs.Prelude.{◌≡◌, ◌+◌, ◌<◌, ℕ, length, position, slice_index, IfSome};
 ghost use Rattle.lq_text.specs.Lines.{lines_of};
-ghost use Rattle.lq_request.specs.Style.{is_colon, keep_of, keep_of_lines, style_of, switch_value};
+ghost use Rattle.lq_request.specs.Style.{is_colon, last_switch, style_of, switch_of_line};
+ghost use Rattle.lq_request.specs.Style.{switch_value};
 
 use lq_text::{next_line, trim};
 
 /// How the reply to a message is given, and what becomes of the connection.
 #[derive(Clone, Copy)]
 pub struct Style {
-    /// Whether a line of 16 bytes with the code and the length comes first. It is always false so
-    /// far.
+    /// Whether a line of 16 bytes with the code and the length comes first.
     pub fixed16: bool,
     /// Whether the connection goes on.
     pub keep: bool,
 }
 
-/// The style that a message asks for, also a refused or a too long one: the last line
-/// `KeepAlive: on` or `KeepAlive: off` among all of its lines decides `keep`, which is false
-/// without one.
+/// The style that a message asks for, also a refused or a too long one. Among all of its lines the
+/// last one `ResponseHeader: fixed16` or `ResponseHeader: off` decides `fixed16`, and the last one
+/// `KeepAlive: on` or `KeepAlive: off` decides `keep`; each is false without one.
 #[tactic(auto, unfolding(crate::specs::Style::style_of))]
 pub fn reply_style(b: &[u8]) -> Style
     ensures { result ≡ style_of b.now }
 {
     Style {
-        fixed16: false,
-        keep: last_keep(b),
+        fixed16: last_switch(b, "ResponseHeader", "fixed16"),
+        keep: last_switch(b, "KeepAlive", "on"),
     }
 }
 
-/// What the last well-formed `KeepAlive` line says.
-#[tactic(auto, unfolding(crate::specs::Style::keep_of_lines))]
-fn last_keep(bytes: &[u8]) -> bool
-    ensures { result ≡ keep_of_lines (lines_of bytes.now) }
+/// What the last well-formed line with a switch's name says, by the word that turns it on.
+#[tactic(auto, unfolding(crate::specs::Style::last_switch))]
+fn last_switch(bytes: &[u8], name: &str, on: &str) -> bool
+    ensures { result ≡ last_switch name.now on.now (lines_of bytes.now) }
 {
-    let mut keep = None;
+    let mut last = None;
     let mut at = 0;
     'lines: while let Some((end, next)) = next_line(bytes, at) {
-        keep = keep_of(&bytes[at..end]).or(keep);
+        last = switch_of_line(&bytes[at..end], name, on).or(last);
         at = next;
     }
-    keep.unwrap_or(false)
+    last.unwrap_or(false)
 }
 
-/// What a line says of the connection, where it is a well-formed `KeepAlive` line.
-#[tactic(auto, unfolding(crate::specs::Style::keep_of))]
-fn keep_of(line: &[u8]) -> Option<bool>
-    ensures { result ≡ keep_of line.now }
+/// What a line says of a switch, where it is a well-formed line of its name.
+#[tactic(auto, unfolding(crate::specs::Style::switch_of_line))]
+fn switch_of_line(line: &[u8], name: &str, on: &str) -> Option<bool>
+    ensures { result ≡ switch_of_line name.now on.now line.now }
 {
     let colon = colon_place(line)?;
-    if &line[..colon] != b"KeepAlive".as_slice() {
+    if &line[..colon] != name.as_bytes() {
         return None;
     }
-    switch_value(&line[colon + 1..])
+    switch_value(on, &line[colon + 1..])
 }
 
-/// What a switch says, where it is `on` or `off`, with or without blanks around it.
+/// What a switch says: it is the word that turns it on, or `off`, with or without blanks around it.
 #[tactic(auto, unfolding(crate::specs::Style::switch_value))]
-pub fn switch_value(value: &[u8]) -> Option<bool>
-    ensures { result ≡ switch_value value.now }
+pub fn switch_value(on: &str, value: &[u8]) -> Option<bool>
+    ensures { result ≡ switch_value on.now value.now }
 {
     let word = trim(value);
-    if word == b"on".as_slice() {
+    if word == on.as_bytes() {
         Some(true)
     } else if word == b"off".as_slice() {
         Some(false)
