@@ -109,13 +109,16 @@ pub(crate) fn is_reply(
     is_answer(alloc, live, &request, text)
 }
 
-/// Whether the answer to a request is a text.
+/// Whether the answer to a request that shows columns, and no statistics, is a text.
 pub(crate) fn is_answer(
     alloc: Global,
     live: &Live,
     request: &Request,
     text: &str,
 ) -> Result<bool, AllocError> {
+    if request.columns.is_empty() || !request.stats.is_empty() {
+        return Ok(false);
+    }
     let reply = answer(alloc, live, request)?;
     Ok(reply.code == 200 && reply.bytes.as_slice() == text.as_bytes())
 }

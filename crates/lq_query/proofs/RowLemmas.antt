@@ -1,30 +1,91 @@
--- The text of the first rows that a filter chooses, part by part.
-use Rattle.std.proofs.Common.{◌≡◌, ℕ, zero, suc, ◌+◌, ◌-◌, ◌<◌, ◌≤◌, Bool, true, false, Option, None, Some, IfSome, List, [], ◌∷◌, ◌++◌, drop, get_or, length, map, take, refl, sym, ap, ◌∙◌, arith, length-append}
+-- Rows and their lines, part by part.
+use Rattle.std.proofs.Common.{◌≡◌, ℕ, zero, suc, ◌+◌, ◌-◌, ◌<◌, ◌≤◌, Bool, true, false, List, [], ◌∷◌, ◌++◌, length, map, min, take, drop, get_or, refl, subst, sym, ap, ◌∙◌, append_assoc, arith, length-append}
 use Rattle.std.proofs.Math.Logic.{⊎_elim}
+use Rattle.std.proofs.Math.Seq.{take-add}
 use Rattle.std.proofs.lemmas.Bool.{cases_Bool}
-use Rattle.std.proofs.lemmas.List.{append-nil, append_assoc, drop-drop, drop_more, length-map, map-append, take-append-drop, take-map, take_all}
-use Rattle.std.proofs.lemmas.List.Concat.{flat_map-append}
+use Rattle.std.proofs.lemmas.List.{append-nil, get_or_default, length-map, length-take, map-append, take-append-drop, take-map, take_all, take_more}
 use Rattle.std.proofs.lemmas.List.Elements.{filter-append}
+use Rattle.std.specs.List.{list_any}
 use Rattle.std.proofs.lemmas.List.Sums.{count_by-le-length, length-filter}
+use Rattle.std.specs.Prelude.{Result, Ok, Err, OnOk, Option, None, Some, IfSome}
 use Rattle.lq_schema.specs.Value.{Value}
 use Rattle.lq_schema.specs.declared.columns.Col.{Col}
 use Rattle.lq_filter.specs.Trees.{holds, truth_on}
 use Rattle.lq_filter.specs.declared.header.Header.{Header}
-use Rattle.lq_live.specs.State.{State}
-use Rattle.lq_request.specs.declared.request.Request.{Request}
-use Rattle.lq_tables.specs.Cells.{cell_of}
-use Rattle.lq_tables.specs.Rows.{rows_of}
+use Rattle.lq_output.specs.Body.{body_limit, body_text}
+use Rattle.lq_output.specs.Writing.{Writes, Writing, IsTooLargeWith, AddsCell, EndsLine}
 use Rattle.lq_tables.specs.declared.row.Row.{Row}
-use Rattle.lq_tables.specs.declared.row.Row.TheVariants.{Status}
-use Rattle.lq_query.specs.Answer.{chosen, first_lines, kept, reply_limit, reply_lines, row_line, with_names}
-use Rattle.lq_query.specs.Body.{first_rows_text, marked}
-use Rattle.lq_query.specs.Csv.{csv, csv_line}
+use Rattle.lq_query.specs.Answer.{first_lines}
+use Rattle.lq_query.specs.Rows.{chosen, row_cells}
+use Rattle.lq_query.specs.Lines.{AddsCells, AreTooLarge, HasLines, IsTooLarge, first_rows, marked}
 
--- ---- lists
+-- ---- lines one behind the other
 
-pub map-map : {X Y Z : Type 0} (f : Y → Z) (g : X → Y) (xs : List X) → map f (map g xs) ≡ map (λ x. f (g x)) xs
-map-map f g [] = refl
-map-map f g (x ∷ xs) = ap (λ l. f (g x) ∷ l) (map-map f g xs)
+-- no lines
+pub no_lines : (w : Writing) → HasLines w w []
+no_lines w = record {
+  layout = refl;
+  written = λ before is. subst (λ lines. Writes w lines []) (sym (append-nil before)) is;
+}
+
+pub HasLines-then : (old mid new : Writing) (front back : List (List Value)) → HasLines old mid front → HasLines mid new back → HasLines old new (front ++ back)
+HasLines-then old mid new front back first second = record {
+  layout = second.layout ∙ first.layout;
+  written = λ before is. subst (λ lines. Writes new lines []) (append_assoc before front back) (second.written (before ++ front) (first.written before is));
+}
+
+-- where lines behind others are too many, so are all of them
+pub IsTooLarge-then : (old mid : Writing) (front back rest : List (List Value)) → HasLines old mid front → IsTooLarge mid back → IsTooLarge old (front ++ (back ++ rest))
+IsTooLarge-then old mid front back rest first large before is more =
+    let lines : (before ++ front) ++ (back ++ (rest ++ more)) ≡ before ++ ((front ++ (back ++ rest)) ++ more)
+    = simp append_assoc in
+    subst (λ (l : List (List Value)). body_limit < length (body_text old.layout l)) lines
+    (rw (← first.layout) (large (before ++ front) (first.written before is) (rest ++ more)))
+
+-- ---- the cells of a line
+
+pub no_cells : (w : Writing) → AddsCells w w []
+no_cells w = record {
+  layout = refl;
+  written = λ before front is. subst (Writes w before) (sym (append-nil front)) is;
+}
+
+pub AddsCells-more : (old mid new : Writing) (cells : List Value) (value : Value) → AddsCells old mid cells → new.layout ≡ mid.layout → AddsCell mid new value → AddsCells old new (cells ++ value ∷ [])
+AddsCells-more old mid new cells value first layout adds = record {
+  layout = layout ∙ first.layout;
+  written = λ before front is. subst (Writes new before) (append_assoc front cells (value ∷ [])) (adds before (front ++ cells) (first.written before front is));
+}
+
+pub AddsCells-then : (old mid new : Writing) (cells later : List Value) → AddsCells old mid cells → AddsCells mid new later → AddsCells old new (cells ++ later)
+AddsCells-then old mid new cells later first second = record {
+  layout = second.layout ∙ first.layout;
+  written = λ before front is. subst (Writes new before) (append_assoc front cells later) (second.written before (front ++ cells) (first.written before front is));
+}
+
+pub AreTooLarge-cell : (old mid : Writing) (cells : List Value) (value : Value) (later : List Value) → AddsCells old mid cells → IsTooLargeWith mid value → AreTooLarge old (cells ++ value ∷ later)
+AreTooLarge-cell old mid cells value later first large before front is rest more =
+    let line : (front ++ cells) ++ (value ∷ (later ++ rest)) ≡ front ++ ((cells ++ value ∷ later) ++ rest) = simp append_assoc in
+    subst (λ (l : List Value). body_limit < length (body_text old.layout (before ++ l ∷ more))) line
+    (rw (← first.layout) (large before (front ++ cells) (first.written before front is) (later ++ rest) more))
+
+pub AreTooLarge-then : (old mid : Writing) (cells later : List Value) → AddsCells old mid cells → AreTooLarge mid later → AreTooLarge old (cells ++ later)
+AreTooLarge-then old mid cells later first large before front is rest more =
+    let line : (front ++ cells) ++ (later ++ rest) ≡ front ++ ((cells ++ later) ++ rest) = simp append_assoc in
+    subst (λ (l : List Value). body_limit < length (body_text old.layout (before ++ l ∷ more))) line
+    (rw (← first.layout) (large before (front ++ cells) (first.written before front is) rest more))
+
+-- a line of cells
+pub line_of_cells : (old mid new : Writing) (cells : List Value) → AddsCells old mid cells → new.layout ≡ mid.layout → EndsLine mid new → HasLines old new (cells ∷ [])
+line_of_cells old mid new cells first layout ends = record {
+  layout = layout ∙ first.layout;
+  written = λ before is. ends before cells (first.written before [] is);
+}
+
+pub line_too_large : (old : Writing) (cells : List Value) → AreTooLarge old cells → IsTooLarge old (cells ∷ [])
+line_too_large old cells large before is more =
+    subst (λ (l : List Value). body_limit < length (body_text old.layout (before ++ l ∷ more))) (append-nil cells) (large before [] is [] more)
+
+-- ---- rows
 
 take-append : {X : Type 0} (n : ℕ) (xs ys : List X) → take n (xs ++ ys) ≡ take n xs ++ take (n - length xs) ys
 take-append zero [] ys =
@@ -40,15 +101,16 @@ take-append (suc n) (x ∷ xs) ys =
     let rest : n - length xs ≡ suc n - length (x ∷ xs) = omega arith in
     ap (λ l. x ∷ l) (take-append n xs ys ∙ ap (λ k. take n xs ++ take k ys) rest)
 
--- the text of rows in two parts: the second shows what the first has left
-pub text_of_parts : (columns : List Col) (most : ℕ) (front back : List (Col → Value))
-    → first_rows_text columns most (front ++ back) ≡ first_rows_text columns most front ++ first_rows_text columns (most - length front) back
-text_of_parts columns most front back =
-    ap (λ rows. csv (map (row_line columns) rows)) (take-append most front back)
-    ∙ ap csv (map-append (row_line columns) (take most front) (take (most - length front) back))
-    ∙ flat_map-append csv_line (map (row_line columns) (take most front)) (map (row_line columns) (take (most - length front) back))
+pub map-map : {X Y Z : Type 0} (f : Y → Z) (g : X → Y) (xs : List X) → map f (map g xs) ≡ map (λ x. f (g x)) xs
+map-map f g [] = refl
+map-map f g (x ∷ xs) = ap (λ l. f (g x) ∷ l) (map-map f g xs)
 
--- ---- the rows that are chosen
+-- the lines of rows in two parts: the second shows what the first has left
+pub lines_of_parts : (columns : List Col) (most : ℕ) (front back : List (Col → Value))
+    → first_rows columns most (front ++ back) ≡ first_rows columns most front ++ first_rows columns (most - length front) back
+lines_of_parts columns most front back =
+    ap (map (row_cells columns)) (take-append most front back)
+    ∙ map-append (row_cells columns) (take most front) (take (most - length front) back)
 
 pub chosen-append : (headers : List Header) (row : Row → (Col → Value)) (front back : List Row)
     → chosen headers (map row (front ++ back)) ≡ chosen headers (map row front) ++ chosen headers (map row back)
@@ -65,123 +127,240 @@ chosen_marked headers row (first ∷ rows) = ⊎_elim
     (λ (other : holds (truth_on (row first)) headers ≡ false). rw other (chosen_marked headers row rows))
     (cases_Bool (holds (truth_on (row first)) headers))
 
--- no more rows are chosen than there are
-pub few_chosen : (headers : List Header) (row : Row → (Col → Value)) (rows : List Row) → length (chosen headers (map row rows)) ≤ length rows
-few_chosen headers row rows =
-    let chosen_of : (Col → Value) → Bool = λ cells. holds (truth_on cells) headers in
-    omega (arith, length-filter chosen_of (map row rows), count_by-le-length chosen_of (map row rows), length-map rows row)
+-- ---- rows that aren't tested
 
--- ---- what is added to a body
+-- without a header each row is chosen
+all_chosen : (rows : List (Col → Value)) → chosen [] rows ≡ rows
+all_chosen [] = refl
+all_chosen (row ∷ rows) = ap (λ l. row ∷ l) (all_chosen rows)
 
--- a body that is too long with a part of a text is so with the whole
-pub too_long : (body front rest whole : List ℕ) → reply_limit < length (body ++ front) → body ++ (front ++ rest) ≡ whole → reply_limit < length whole
-too_long body front rest whole long is =
-    let all : length (body ++ (front ++ rest)) ≡ length whole = ap length is in
-    omega (arith, long, all, length-append body front, length-append body (front ++ rest), length-append front rest)
+pub chosen_by_none : (headers : List Header) (rows : List (Col → Value)) → length headers ≡ 0 → rows ≡ chosen headers rows
+chosen_by_none [] rows none = sym (all_chosen rows)
+chosen_by_none (header ∷ headers) rows none = absurd (omega arith)
 
--- where a block is added, what is left of the text follows
-pub block_added : (columns : List Col) (headers : List Header) (row : Row → (Col → Value)) (most left : ℕ) (body more whole : List ℕ) (block later : List Row)
-    → more ≡ body ++ first_rows_text columns most (chosen headers (map row block)) → left ≡ most - length (chosen headers (map row block))
-    → body ++ first_rows_text columns most (chosen headers (map row (block ++ later))) ≡ whole
-    → more ++ first_rows_text columns left (chosen headers (map row later)) ≡ whole
-block_added columns headers row most left body more whole block later added count is =
-    let front : List ℕ = first_rows_text columns most (chosen headers (map row block)) in
-    let rest : List ℕ = first_rows_text columns left (chosen headers (map row later)) in
-    ap (λ text. text ++ rest) added ∙ append_assoc body front rest
-    ∙ ap (λ n. body ++ (front ++ first_rows_text columns n (chosen headers (map row later)))) count
-    ∙ ap (λ text. body ++ text) (sym (text_of_parts columns most (chosen headers (map row block)) (chosen headers (map row later))))
-    ∙ ap (λ rows. body ++ first_rows_text columns most rows) (sym (chosen-append headers row block later)) ∙ is
+-- where no mark is set no row is marked
+pub none_marked : (marks : List Bool) (rows : List Row) → list_any (λ mark. mark) marks ≡ false → marked marks rows ≡ []
+none_marked [] rows none = refl
+none_marked (mark ∷ marks) [] none = refl
+none_marked (true ∷ marks) (row ∷ rows) none = cc
+none_marked (false ∷ marks) (row ∷ rows) none = none_marked marks rows none
 
--- the parts of a text that goes on with a block
-pub block_parts : (columns : List Col) (headers : List Header) (row : Row → (Col → Value)) (most : ℕ) (body whole : List ℕ) (block later : List Row)
-    → body ++ first_rows_text columns most (chosen headers (map row (block ++ later))) ≡ whole
-    → body ++ (first_rows_text columns most (chosen headers (map row block))
-    ++ first_rows_text columns (most - length (chosen headers (map row block))) (chosen headers (map row later))) ≡ whole
-block_parts columns headers row most body whole block later is =
-    ap (λ text. body ++ text) (sym (text_of_parts columns most (chosen headers (map row block)) (chosen headers (map row later))))
-    ∙ ap (λ rows. body ++ first_rows_text columns most rows) (sym (chosen-append headers row block later)) ∙ is
+-- of no more rows than there may be all are the first
+pub few_rows : (rows : List Row) (most : ℕ) → length rows ≤ most → rows ≡ take most rows
+few_rows rows most few = sym (take_all most rows few)
+
+-- the lines of the first rows, row by row
+pub first_of_rows : (columns : List Col) (row : Row → (Col → Value)) (most : ℕ) (rows : List Row)
+    → map (λ each. row_cells columns (row each)) (take most rows) ≡ first_rows columns most (map row rows)
+first_of_rows columns row most rows = sym (map-map (row_cells columns) row (take most rows)) ∙ ap (map (row_cells columns)) (sym (take-map row most rows))
+
+-- ---- the lines of rows in parts
+
+module _ (columns : List Col) (old mid : Writing) (most left : ℕ) (front : List (Col → Value))
+    (first : HasLines old mid (first_rows columns most front)) (count : left ≡ most - length front) where
+  pub part_added : (new : Writing) (back : List (Col → Value)) → HasLines mid new (first_rows columns left back) → HasLines old new (first_rows columns most (front ++ back))
+  part_added new back second =
+      let lines : first_rows columns most front ++ first_rows columns left back ≡ first_rows columns most (front ++ back)
+      = ap (λ n. first_rows columns most front ++ first_rows columns n back) count ∙ sym (lines_of_parts columns most front back) in
+      subst (HasLines old new) lines (HasLines-then old mid new (first_rows columns most front) (first_rows columns left back) first second)
+
+  pub part_too_large : (back rest : List (Col → Value)) → IsTooLarge mid (first_rows columns left back) → IsTooLarge old (first_rows columns most (front ++ (back ++ rest)))
+  part_too_large back rest large =
+      let lines : first_rows columns most front ++ (first_rows columns left back ++ first_rows columns (left - length back) rest) ≡ first_rows columns most (front ++ (back ++ rest))
+      = ap (λ l. first_rows columns most front ++ l) (sym (lines_of_parts columns left back rest))
+      ∙ ap (λ n. first_rows columns most front ++ first_rows columns n (back ++ rest)) count
+      ∙ sym (lines_of_parts columns most front (back ++ rest)) in
+      subst (IsTooLarge old) lines (IsTooLarge-then old mid (first_rows columns most front) (first_rows columns left back) (first_rows columns (left - length back) rest) first large)
+
+-- where no line is left to show, none follows
+pub none_left : (columns : List Col) (most : ℕ) (front back : List (Col → Value)) → most - length front ≡ 0 → first_rows columns most front ≡ first_rows columns most (front ++ back)
+none_left columns most front back none =
+    sym (append-nil (first_rows columns most front))
+    ∙ ap (λ n. first_rows columns most front ++ first_rows columns n back) (sym none)
+    ∙ sym (lines_of_parts columns most front back)
 
 -- ---- one marked row after the other
 
-module _ (marks : List Bool) (rows : List Row) (place : ℕ) (same : length marks ≡ length rows) (within : place < length rows) where
-  marks_from : drop place marks ≡ get_or marks place false ∷ drop (place + 1) marks
-  marks_from = drop_more marks place false (omega (arith, same, within))
+marked-append : (ma mb : List Bool) (ra rb : List Row) → length ma ≡ length ra → marked (ma ++ mb) (ra ++ rb) ≡ marked ma ra ++ marked mb rb
+marked-append [] mb [] rb same = refl
+marked-append [] mb (row ∷ ra) rb same = absurd (omega (arith, same))
+marked-append (mark ∷ ma) mb [] rb same = absurd (omega (arith, same))
+marked-append (true ∷ ma) mb (row ∷ ra) rb same = ap (λ l. row ∷ l) (marked-append ma mb ra rb (omega (arith, same)))
+marked-append (false ∷ ma) mb (row ∷ ra) rb same = marked-append ma mb ra rb (omega (arith, same))
 
-  marked_with : (mark : Bool) (row : Row) → get_or marks place false ≡ mark
-      → marked (drop place marks) (drop place rows) ≡ marked (mark ∷ drop (place + 1) marks) (get_or rows place row ∷ drop (place + 1) rows)
-  marked_with mark row is =
-      ap (λ those. marked those (drop place rows)) (marks_from ∙ ap (λ m. m ∷ drop (place + 1) marks) is)
-      ∙ ap (λ those. marked (mark ∷ drop (place + 1) marks) those) (drop_more rows place row within)
+module _ (marks : List Bool) (rows : List Row) (place : ℕ) (row : Row) (same : length marks ≡ length rows) (within : place < length rows) where
+  fronts : (n : ℕ) → length (take n marks) ≡ length (take n rows)
+  fronts n = length-take n marks ∙ ap (λ k. min n k) same ∙ sym (length-take n rows)
 
-  pub marked_here : (row : Row) → get_or marks place false ≡ true
-      → marked (drop place marks) (drop place rows) ≡ get_or rows place row ∷ marked (drop (place + 1) marks) (drop (place + 1) rows)
-  marked_here row is = marked_with true row is
+  pub marked_more : marked (take (place + 1) marks) (take (place + 1) rows)
+      ≡ marked (take place marks) (take place rows) ++ marked (get_or marks place false ∷ []) (get_or rows place row ∷ [])
+  marked_more =
+      ap (λ those. marked those (take (place + 1) rows)) (take_more marks place false (omega (arith, same, within)))
+      ∙ ap (λ those. marked (take place marks ++ get_or marks place false ∷ []) those) (take_more rows place row within)
+      ∙ marked-append (take place marks) (get_or marks place false ∷ []) (take place rows) (get_or rows place row ∷ []) (fronts place)
 
-  pub not_marked_here : get_or marks place false ≡ false
-      → marked (drop place marks) (drop place rows) ≡ marked (drop (place + 1) marks) (drop (place + 1) rows)
-  not_marked_here is = marked_with false Status is
+  pub marked_all : marked (take place marks) (take place rows)
+      ++ (marked (get_or marks place false ∷ []) (get_or rows place row ∷ []) ++ marked (drop (place + 1) marks) (drop (place + 1) rows)) ≡ marked marks rows
+  marked_all =
+      sym (append_assoc (marked (take place marks) (take place rows)) (marked (get_or marks place false ∷ []) (get_or rows place row ∷ [])) (marked (drop (place + 1) marks) (drop (place + 1) rows)))
+      ∙ ap (λ those. those ++ marked (drop (place + 1) marks) (drop (place + 1) rows)) (sym marked_more)
+      ∙ sym (marked-append (take (place + 1) marks) (drop (place + 1) marks) (take (place + 1) rows) (drop (place + 1) rows) (fronts (place + 1)))
+      ∙ ap (λ those. marked those (take (place + 1) rows ++ drop (place + 1) rows)) (take-append-drop (place + 1) marks)
+      ∙ ap (marked marks) (take-append-drop (place + 1) rows)
 
-  module _ (columns : List Col) (row_of : Row → (Col → Value)) (most : ℕ) (body whole : List ℕ) (row : Row) (is : get_or marks place false ≡ true)
-      (all : body ++ first_rows_text columns most (map row_of (marked (drop place marks) (drop place rows))) ≡ whole) where
-    pub row_parts : body ++ (first_rows_text columns most (row_of (get_or rows place row) ∷ [])
-        ++ first_rows_text columns (most - 1) (map row_of (marked (drop (place + 1) marks) (drop (place + 1) rows)))) ≡ whole
-    row_parts =
-        ap (λ text. body ++ text) (sym (text_of_parts columns most (row_of (get_or rows place row) ∷ []) (map row_of (marked (drop (place + 1) marks) (drop (place + 1) rows)))))
-        ∙ ap (λ those. body ++ first_rows_text columns most (map row_of those)) (sym (marked_here row is)) ∙ all
+-- ---- one place of a list
 
-    pub row_added : (more : List ℕ) (left : ℕ) → more ≡ body ++ first_rows_text columns most (row_of (get_or rows place row) ∷ []) → left ≡ most - 1
-        → more ++ first_rows_text columns left (map row_of (marked (drop (place + 1) marks) (drop (place + 1) rows))) ≡ whole
-    row_added more left added count =
-        let front : List ℕ = first_rows_text columns most (row_of (get_or rows place row) ∷ []) in
-        let later : List (Col → Value) = map row_of (marked (drop (place + 1) marks) (drop (place + 1) rows)) in
-        ap (λ text. text ++ first_rows_text columns left later) added ∙ append_assoc body front (first_rows_text columns left later)
-        ∙ ap (λ n. body ++ (front ++ first_rows_text columns n later)) count ∙ row_parts
+pub split_map : {X Y : Type 0} (f : X → Y) (xs : List X) (k : ℕ) (x : X) → k < length xs → x ≡ get_or xs k x
+    → map f (take k xs) ++ (f x ∷ map f (drop (k + 1) xs)) ≡ map f xs
+split_map f [] k x within is = absurd (omega (arith, within))
+split_map f (y ∷ xs) zero x within is = ap (λ z. f z ∷ map f xs) is
+split_map f (y ∷ xs) (suc k) x within is =
+    let next : suc k + 1 ≡ suc (k + 1) = omega arith in
+    ap (λ l. f y ∷ l)
+    (ap (λ n. map f (take k xs) ++ (f x ∷ map f (drop n (y ∷ xs)))) next ∙ split_map f xs k x (omega (arith, within)) is)
 
-  pub row_counted : (most left whole : ℕ) → get_or marks place false ≡ true → left ≡ most - 1
-      → most - length (marked (drop place marks) (drop place rows)) ≡ whole
-      → left - length (marked (drop (place + 1) marks) (drop (place + 1) rows)) ≡ whole
-  row_counted most left whole is count all =
-      let here : length (marked (drop place marks) (drop place rows)) ≡ suc (length (marked (drop (place + 1) marks) (drop (place + 1) rows))) = ap length (marked_here Status is) in
-      omega (arith, here, count, all)
+-- the lines of the first rows, one more, or all with the next one too large
+pub lines_more : {X : Type 0} (line : X → List Value) (rows : List X) (place : ℕ) (row : X) (old mid new : Writing) → place < length rows
+    → HasLines old mid (map line (take place rows)) → HasLines mid new (line (get_or rows place row) ∷ []) → HasLines old new (map line (take (place + 1) rows))
+lines_more line rows place row old mid new within first next =
+    subst (HasLines old new)
+    (sym (map-append line (take place rows) (get_or rows place row ∷ [])) ∙ ap (map line) (sym (take_more rows place row within)))
+    (HasLines-then old mid new (map line (take place rows)) (line (get_or rows place row) ∷ []) first next)
 
--- ---- blocks
+pub line_large : {X : Type 0} (line : X → List Value) (rows : List X) (place : ℕ) (row : X) (old mid : Writing) → place < length rows
+    → HasLines old mid (map line (take place rows)) → IsTooLarge mid (line (get_or rows place row) ∷ []) → IsTooLarge old (map line rows)
+line_large line rows place row old mid within first large =
+    subst (IsTooLarge old)
+    (split_map line rows place (get_or rows place row) within (get_or_default rows place row (get_or rows place row) within))
+    (IsTooLarge-then old mid (map line (take place rows)) (line (get_or rows place row) ∷ []) (map line (drop (place + 1) rows)) first large)
 
--- what is left of the rows is a block and what follows it
-pub next_block : (rows : List Row) (at end : ℕ) → at < end → drop at rows ≡ take (end - at) (drop at rows) ++ drop end rows
-next_block rows at end some =
-    let place : at + (end - at) ≡ end = omega (arith, some) in
-    sym (take-append-drop (end - at) (drop at rows)) ∙ ap (λ later. take (end - at) (drop at rows) ++ later) (drop-drop (end - at) at rows ∙ ap (λ k. drop k rows) place)
+-- all rows are the first so many
+pub lines_all : {X : Type 0} (line : X → List Value) (rows : List X) (place : ℕ) (old new : Writing) → length rows ≤ place
+    → HasLines old new (map line (take place rows)) → HasLines old new (map line rows)
+lines_all line rows place old new all first = subst (λ those. HasLines old new (map line those)) (take_all place rows all) first
 
--- ---- the whole text
+-- ---- the lines of marked rows
 
-with_names_text : (head : Bool) (columns : List Col) (lines : List (List (List ℕ))) → csv (with_names head columns lines) ≡ csv (with_names head columns []) ++ csv lines
-with_names_text true columns lines = ap (λ text. text ++ csv lines) (sym (append-nil _))
-with_names_text false columns lines = refl
+module _ (marks : List Bool) (rows : List Row) (place : ℕ) (row : Row) (same : length marks ≡ length rows) (within : place < length rows) where
+  pub not_marked_more : get_or marks place false ≡ false → marked (take (place + 1) marks) (take (place + 1) rows) ≡ marked (take place marks) (take place rows)
+  not_marked_more is =
+      marked_more marks rows place row same within
+      ∙ ap (λ mark. marked (take place marks) (take place rows) ++ marked (mark ∷ []) (get_or rows place row ∷ [])) is
+      ∙ append-nil (marked (take place marks) (take place rows))
 
-limited_text : (columns : List Col) (limit : Option ℕ) (count left : ℕ) (rows : List (Col → Value)) → length rows ≤ count
-    → (limit ≡ None → left ≡ count) → IfSome limit (λ most. left ≡ most)
-    → csv (first_lines limit (map (row_line columns) rows)) ≡ first_rows_text columns left rows
-limited_text columns None count left rows few none some =
-    let all : left ≡ count = none refl in
-    ap (λ those. csv (map (row_line columns) those)) (sym (take_all left rows (omega (arith, few, all))))
-limited_text columns (Some most) count left rows few none some =
-    ap csv (take-map (row_line columns) most rows) ∙ ap (λ n. first_rows_text columns n rows) (sym some)
+  one_more : get_or marks place false ≡ true → marked (take (place + 1) marks) (take (place + 1) rows) ≡ marked (take place marks) (take place rows) ++ get_or rows place row ∷ []
+  one_more is =
+      marked_more marks rows place row same within
+      ∙ ap (λ mark. marked (take place marks) (take place rows) ++ marked (mark ∷ []) (get_or rows place row ∷ [])) is
 
--- the text of a reply is that of its names, and that of the first rows
-pub reply_text : (request : Request) (s : State) (left : ℕ)
-    → (request.limit ≡ None → left ≡ length (rows_of s request.table)) → IfSome request.limit (λ most. left ≡ most)
-    → csv (reply_lines request s) ≡ csv (with_names request.head request.columns [])
-    ++ first_rows_text request.columns left (chosen request.filter (map (cell_of s) (rows_of s request.table)))
-reply_text request s left none some =
-    with_names_text request.head request.columns (first_lines request.limit (map (row_line request.columns) (kept request s)))
-    ∙ ap (λ text. csv (with_names request.head request.columns []) ++ text)
-    (limited_text request.columns request.limit (length (rows_of s request.table)) left (kept request s)
-    (few_chosen request.filter (cell_of s) (rows_of s request.table)) none some)
+  pub marked_left : (most left new : ℕ) → left ≡ most - length (marked (take place marks) (take place rows)) → get_or marks place false ≡ true → new ≡ left - 1
+      → new ≡ most - length (marked (take (place + 1) marks) (take (place + 1) rows))
+  marked_left most left new count is next = omega (arith, count, next, ap length (one_more is), length-append (marked (take place marks) (take place rows)) (get_or rows place row ∷ []))
 
--- names that are too long make the whole reply so
-pub names_too_long : (request : Request) (s : State) → reply_limit < length (csv (with_names request.head request.columns [])) → reply_limit < length (csv (reply_lines request s))
-names_too_long request s long =
-    let names : List ℕ = csv (with_names request.head request.columns []) in
-    let lines : List (List (List ℕ)) = first_lines request.limit (map (row_line request.columns) (kept request s)) in
-    let all : length (csv (reply_lines request s)) ≡ length (names ++ csv lines) = ap length (with_names_text request.head request.columns lines) in
-    omega (arith, long, all, length-append names (csv lines))
+  module _ (columns : List Col) (row_of : Row → (Col → Value)) (old mid : Writing) (most left : ℕ)
+      (first : HasLines old mid (first_rows columns most (map row_of (marked (take place marks) (take place rows)))))
+      (count : left ≡ most - length (marked (take place marks) (take place rows))) (is : get_or marks place false ≡ true) where
+    counted : left ≡ most - length (map row_of (marked (take place marks) (take place rows)))
+    counted = count ∙ ap (λ n. most - n) (sym (length-map (marked (take place marks) (take place rows)) row_of))
+
+    pub marked_added : (new : Writing) → HasLines mid new (first_rows columns left (row_of (get_or rows place row) ∷ []))
+        → HasLines old new (first_rows columns most (map row_of (marked (take (place + 1) marks) (take (place + 1) rows))))
+    marked_added new next =
+        subst (λ (those : List (Col → Value)). HasLines old new (first_rows columns most those))
+        (sym (map-append row_of (marked (take place marks) (take place rows)) (get_or rows place row ∷ [])) ∙ ap (map row_of) (sym (one_more is)))
+        (part_added columns old mid most left (map row_of (marked (take place marks) (take place rows))) first counted new (row_of (get_or rows place row) ∷ []) next)
+
+    pub marked_large : IsTooLarge mid (first_rows columns left (row_of (get_or rows place row) ∷ [])) → IsTooLarge old (first_rows columns most (map row_of (marked marks rows)))
+    marked_large large =
+        let front : List Row = marked (take place marks) (take place rows) in
+        let rest : List Row = marked (drop (place + 1) marks) (drop (place + 1) rows) in
+        let all : front ++ (get_or rows place row ∷ rest) ≡ marked marks rows
+        = ap (λ mark. front ++ (marked (mark ∷ []) (get_or rows place row ∷ []) ++ rest)) (sym is) ∙ marked_all marks rows place row same within in
+        subst (λ (those : List (Col → Value)). IsTooLarge old (first_rows columns most those))
+        (sym (map-append row_of front (get_or rows place row ∷ rest)) ∙ ap (map row_of) all)
+        (part_too_large columns old mid most left (map row_of front) first counted (row_of (get_or rows place row) ∷ []) (map row_of rest) large)
+
+-- ---- two facts of one result
+
+pub on_ok_both : {T E P Q R : Type 0} (r : Result T E) → (P → Q → R) → OnOk r P → OnOk r Q → OnOk r R
+on_ok_both (Ok value) both p q = both p q
+on_ok_both (Err error) both p q = p
+
+-- ---- blocks of rows
+
+-- no rows have no lines
+pub no_first_rows : (columns : List Col) (most : ℕ) (rows : List (Col → Value)) → [] ≡ rows → [] ≡ first_rows columns most rows
+no_first_rows columns zero rows none = ap (first_rows columns 0) none
+no_first_rows columns (suc most) rows none = ap (first_rows columns (suc most)) none
+
+module _ (headers : List Header) (row_of : Row → (Col → Value)) (rows : List Row) (at end : ℕ) (some : at < end) where
+  -- the rows that are chosen up to the end of a block
+  pub up_to : chosen headers (map row_of (take end rows)) ≡ chosen headers (map row_of (take at rows)) ++ chosen headers (map row_of (take (end - at) (drop at rows)))
+  up_to =
+      let sum : end ≡ at + (end - at) = omega (arith, some) in
+      ap (λ n. chosen headers (map row_of (take n rows))) sum
+      ∙ ap (λ those. chosen headers (map row_of those)) (take-add at (end - at) rows)
+      ∙ chosen-append headers row_of (take at rows) (take (end - at) (drop at rows))
+
+  whole : chosen headers (map row_of (take at rows)) ++ (chosen headers (map row_of (take (end - at) (drop at rows))) ++ chosen headers (map row_of (drop end rows)))
+      ≡ chosen headers (map row_of rows)
+  whole =
+      sym (append_assoc (chosen headers (map row_of (take at rows))) (chosen headers (map row_of (take (end - at) (drop at rows)))) (chosen headers (map row_of (drop end rows))))
+      ∙ ap (λ those. those ++ chosen headers (map row_of (drop end rows))) (sym up_to)
+      ∙ sym (chosen-append headers row_of (take end rows) (drop end rows))
+      ∙ ap (λ those. chosen headers (map row_of those)) (take-append-drop end rows)
+
+  pub block_left : (most left new : ℕ) → left ≡ most - length (chosen headers (map row_of (take at rows)))
+      → new ≡ left - length (chosen headers (map row_of (take (end - at) (drop at rows)))) → new ≡ most - length (chosen headers (map row_of (take end rows)))
+  block_left most left new count next =
+      omega (arith, count, next, ap length up_to, length-append (chosen headers (map row_of (take at rows))) (chosen headers (map row_of (take (end - at) (drop at rows)))))
+
+module _ (columns : List Col) (headers : List Header) (row_of : Row → (Col → Value)) (rows : List Row) (at end : ℕ) (some : at < end)
+    (old mid : Writing) (most left : ℕ) (first : HasLines old mid (first_rows columns most (chosen headers (map row_of (take at rows)))))
+    (count : left ≡ most - length (chosen headers (map row_of (take at rows)))) where
+  pub block_added : (new : Writing) → HasLines mid new (first_rows columns left (chosen headers (map row_of (take (end - at) (drop at rows)))))
+      → HasLines old new (first_rows columns most (chosen headers (map row_of (take end rows))))
+  block_added new next =
+      subst (λ (those : List (Col → Value)). HasLines old new (first_rows columns most those)) (sym (up_to headers row_of rows at end some))
+      (part_added columns old mid most left (chosen headers (map row_of (take at rows))) first count new (chosen headers (map row_of (take (end - at) (drop at rows)))) next)
+
+  pub block_large : IsTooLarge mid (first_rows columns left (chosen headers (map row_of (take (end - at) (drop at rows)))))
+      → IsTooLarge old (first_rows columns most (chosen headers (map row_of rows)))
+  block_large large =
+      subst (λ (those : List (Col → Value)). IsTooLarge old (first_rows columns most those)) (whole headers row_of rows at end some)
+      (part_too_large columns old mid most left (chosen headers (map row_of (take at rows))) first count (chosen headers (map row_of (take (end - at) (drop at rows)))) (chosen headers (map row_of (drop end rows))) large)
+
+module _ (columns : List Col) (headers : List Header) (row_of : Row → (Col → Value)) (rows : List Row) (at most : ℕ) (old new : Writing)
+    (lines : HasLines old new (first_rows columns most (chosen headers (map row_of (take at rows))))) where
+  -- all rows have been looked at
+  pub rows_done : length rows ≤ at → HasLines old new (first_rows columns most (chosen headers (map row_of rows)))
+  rows_done all = subst (λ those. HasLines old new (first_rows columns most (chosen headers (map row_of those)))) (take_all at rows all) lines
+
+  -- as many rows as may be are shown
+  pub rows_shown : most - length (chosen headers (map row_of (take at rows))) ≡ 0 → HasLines old new (first_rows columns most (chosen headers (map row_of rows)))
+  rows_shown none =
+      subst (HasLines old new)
+      (none_left columns most (chosen headers (map row_of (take at rows))) (chosen headers (map row_of (drop at rows))) none
+      ∙ ap (first_rows columns most) (sym (chosen-append headers row_of (take at rows) (drop at rows)) ∙ ap (λ those. chosen headers (map row_of those)) (take-append-drop at rows)))
+      lines
+
+-- ---- the lines that a query shows
+
+pub few_chosen : (headers : List Header) (row_of : Row → (Col → Value)) (rows : List Row) → length (chosen headers (map row_of rows)) ≤ length rows
+few_chosen headers row_of rows =
+    let chosen_of : (Col → Value) → Bool = λ cells. holds (truth_on cells) headers in
+    omega (arith, length-filter chosen_of (map row_of rows), count_by-le-length chosen_of (map row_of rows), length-map rows row_of)
+
+pub limited_lines : (columns : List Col) (headers : List Header) (row_of : Row → (Col → Value)) (rows : List Row) (limit : Option ℕ) (most : ℕ)
+    → (limit ≡ None → most ≡ length rows) → IfSome limit (λ count. most ≡ count)
+    → first_rows columns most (chosen headers (map row_of rows)) ≡ first_lines limit (map (row_cells columns) (chosen headers (map row_of rows)))
+limited_lines columns headers row_of rows None most none some =
+    let all : most ≡ length rows = none refl in
+    ap (map (row_cells columns)) (take_all most (chosen headers (map row_of rows)) (omega (arith, all, few_chosen headers row_of rows)))
+limited_lines columns headers row_of rows (Some count) most none some =
+    ap (λ n. first_rows columns n (chosen headers (map row_of rows))) some ∙ sym (take-map (row_cells columns) count (chosen headers (map row_of rows)))
+
+-- with further cells behind them too many cells stay too many
+pub AreTooLarge-front : (old : Writing) (cells later : List Value) → AreTooLarge old cells → AreTooLarge old (cells ++ later)
+AreTooLarge-front old cells later large before front is rest more =
+    subst (λ (l : List Value). body_limit < length (body_text old.layout (before ++ (front ++ l) ∷ more))) (sym (append_assoc cells later rest)) (large before front is (later ++ rest) more)

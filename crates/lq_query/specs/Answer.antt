@@ -1,68 +1,91 @@
 -- The reply to a query at a state.
-use Rattle.std.specs.Prelude.{ℕ, nat_lt, Bool, true, false, Option, None, Some, List, [], ◌∷◌, filter, length, map, take, if◌then◌else◌}
+use Rattle.std.specs.Prelude.{ℕ, zero, suc, ◌+◌, ◌==◌, nat_lt, Bool, true, false, Option, None, Some, List, [], ◌∷◌, ◌++◌, codes, length, map, take, if◌then◌else◌}
+use Rattle.std.specs.Fmt.{decimal}
+use Rattle.lq_records.specs.declared.refusal.Refusal.{Refusal}
 use Rattle.lq_schema.specs.declared.columns.Col.{Col}
-use Rattle.lq_schema.specs.declared.columns.Table.{Table}
 use Rattle.lq_schema.specs.Names.{full_name}
-use Rattle.lq_schema.specs.Value.{Value}
-use Rattle.lq_filter.specs.Trees.{holds, truth_on}
-use Rattle.lq_filter.specs.declared.header.Header.{Header}
+use Rattle.lq_schema.specs.Value.{Value, Words}
 use Rattle.lq_live.specs.State.{State}
-use Rattle.lq_tables.specs.Rows.{rows_of}
-use Rattle.lq_tables.specs.Cells.{cell_of}
+use Rattle.lq_output.specs.Body.{body_text}
+use Rattle.lq_output.specs.Header.{header_text, refusal_text}
+use Rattle.lq_output.specs.declared.layout.Layout.{Layout}
 use Rattle.lq_request.specs.declared.request.Request.{Request}
-use Rattle.lq_query.specs.Csv.{cell_text, csv}
+use Rattle.lq_query.specs.Groups.{group_lines}
+use Rattle.lq_query.specs.Rows.{chosen, row_cells, table_rows}
 use Rattle.lq_query.specs.declared.reply.Reply.{Reply}
 
--- ---- rows
-
--- the rows of a table in order, each as the values that it has in the columns
-abbrev pub table_rows : State → Table → List (Col → Value)
-table_rows s table = map (cell_of s) (rows_of s table)
-
--- the rows that the headers of a filter choose
-abbrev pub chosen : List Header → List (Col → Value) → List (Col → Value)
-chosen headers rows = filter (λ row. holds (truth_on row) headers) rows
+-- ---- lines
 
 -- the rows of the query's table that its filter chooses
 abbrev pub kept : Request → State → List (Col → Value)
 kept request s = chosen request.filter (table_rows s request.table)
 
--- ---- lines
-
-abbrev pub row_line : List Col → (Col → Value) → List (List ℕ)
-row_line columns row = map (λ column. cell_text (row column)) columns
-
 -- the first of the lines, as many as a limit says
-abbrev pub first_lines : Option ℕ → List (List (List ℕ)) → List (List (List ℕ))
+abbrev pub first_lines : Option ℕ → List (List Value) → List (List Value)
 first_lines None lines = lines
 first_lines (Some limit) lines = take limit lines
 
+-- ---- names
+
 -- the names of the columns
-abbrev pub column_names : List Col → List (List ℕ)
-column_names columns = map full_name columns
+abbrev pub column_names : List Col → List Value
+column_names columns = map (λ column. Words (full_name column)) columns
 
-abbrev pub with_names : Bool → List Col → List (List (List ℕ)) → List (List (List ℕ))
-with_names true columns rows = column_names columns ∷ rows
-with_names false columns rows = rows
+abbrev pub stat_name : ℕ → List ℕ
+stat_name number = codes "stats_" ++ decimal number
 
--- The columns' names where they are asked for, then a line for each row that the filter chooses, as
+-- the names of so many statistics: `stats_1`, `stats_2` and so on, from a number on
+abbrev pub stat_names : ℕ → ℕ → List Value
+stat_names number zero = []
+stat_names number (suc count) = Words (stat_name number) ∷ stat_names (number + 1) count
+
+abbrev pub line_of_names : Request → List Value
+line_of_names request =
+    column_names request.columns ++ stat_names 1 (length request.stats)
+
+abbrev pub with_names : Bool → List Value → List (List Value) → List (List Value)
+with_names true names lines = names ∷ lines
+with_names false names lines = lines
+
+-- ---- all lines
+
+-- a line for each row, or with statistics one for each group of rows
+abbrev pub shown_lines : Request → List (Col → Value) → List (List Value)
+shown_lines request rows =
+    if length request.stats == 0 then map (row_cells request.columns) rows
+    else group_lines request.columns request.stats rows
+
+-- The line of names where it is asked for, then the lines of the rows that the filter chooses, as
 -- many as the limit says. The names aren't counted.
-abbrev pub reply_lines : Request → State → List (List (List ℕ))
+abbrev pub reply_lines : Request → State → List (List Value)
 reply_lines request s =
-    with_names request.head request.columns
-    (first_lines request.limit (map (row_line request.columns) (kept request s)))
+    with_names request.head (line_of_names request)
+    (first_lines request.limit (shown_lines request (kept request s)))
 
 -- ---- text
 
--- the most bytes of a body
-abbrev pub reply_limit : ℕ
-reply_limit = 8388608
+-- the format and the separators that a query asks for
+abbrev pub layout_of : Request → Layout
+layout_of request = record { format = request.format; separators = request.separators }
 
--- a body that is too large is replaced by the refusal 413; any other has the code 200
-abbrev pub limited : List ℕ → Reply
-limited body =
-    if nat_lt reply_limit (length body) then record { code = 413; bytes = [] }
-    else record { code = 200; bytes = body }
+-- the text of the lines
+abbrev pub reply_body : Request → State → List ℕ
+reply_body request s = body_text (layout_of request) (reply_lines request s)
+
+-- with the line of 16 bytes before it where that is asked for
+abbrev pub headed : Bool → List ℕ → List ℕ
+headed true body = header_text 200 (length body) ++ body
+headed false body = body
+
+-- what replaces a body that is too large
+abbrev pub too_large : Refusal
+too_large = record { code = 413; text = codes "reply too large" }
+
+-- a body of more than 8,388,608 bytes is replaced by the refusal 413; any other has the code 200
+abbrev pub limited : Bool → List ℕ → Reply
+limited fixed16 body =
+    if nat_lt 8388608 (length body) then record { code = 413; bytes = refusal_text too_large fixed16 }
+    else record { code = 200; bytes = headed fixed16 body }
 
 abbrev pub answer_of : Request → State → Reply
-answer_of request s = limited (csv (reply_lines request s))
+answer_of request s = limited request.fixed16 (reply_body request s)

@@ -1,3 +1,5 @@
-pub mod Csv
+pub mod Rows
+pub mod Groups
 pub mod Answer
-pub mod Body
+pub mod Lines
+pub mod Counting

@@ -1,11 +1,14 @@
-//! The answer to a whole query: the rows of its table at a state, line by line, in the form that it
-//! asks for.
+//! The answer to a whole query: the rows of its table at a state, line by line, or the statistics of
+//! these rows, in the form that it asks for.
 #![tactic(auto)]
 
 mod column;
-mod csv;
+mod entry;
+mod groups;
+mod line;
 mod page;
 mod reply;
+mod row_test;
 mod selection;
 
 pub use reply::{Reply, answer};

@@ -1,18 +1,19 @@
-ghost use Rattle.std.specs.Prelude.{◌≡◌, ◌-◌, ◌<◌, ◌++◌, ◌∷◌, [], ◌≤◌, length, map, IfOk, OnOk};
-ghost use Rattle.std.specs.Bool.{OnTrue};
-ghost use Rattle.lq_schema.specs.Names.{full_name};
+ghost use Rattle.std.specs.Prelude.{◌≡◌, ◌-◌, ◌<◌, ◌∷◌, [], ◌≤◌, length, map, take, Err, None, OnOk, IfSome};
+ghost use Rattle.std.specs.List.{list_any};
+ghost use Rattle.lq_output.specs.Writing.{AddsCell, IsTooLargeWith, with_cell};
+ghost use Rattle.lq_output.specs.declared.error.WriteErr.TheVariants.{TooLarge};
 ghost use Rattle.lq_tables.specs.Cells.{cell_of};
-ghost use Rattle.lq_query.specs.Answer.{chosen, reply_limit, row_line, with_names};
-ghost use Rattle.lq_query.specs.Body.{AddsText, IsBody, first_rows_text, line_cell, line_cells, marked};
-ghost use Rattle.lq_query.specs.Csv.{cell_text, csv, csv_line};
+ghost use Rattle.lq_query.specs.Answer.{first_lines};
+ghost use Rattle.lq_query.specs.Rows.{chosen, row_cells};
+ghost use Rattle.lq_query.specs.Lines.{HasLines, IsTooLarge, first_rows, marked};
 
 use crate::column::ShownColumn;
-use crate::csv::{push_number, push_value};
-use crate::reply::REPLY_LIMIT;
 use crate::selection::Selection;
+use lq_filter::Filter;
 use lq_live::Live;
-use lq_records::Memory;
-use lq_schema::{Col, ColKind, column_name};
+use lq_output::{WriteErr, Writer};
+use lq_request::Request;
+use lq_schema::{Col, ColKind};
 use lq_tables::{Row, RowCells};
 use std::alloc::Global;
 
@@ -20,7 +21,7 @@ use std::alloc::Global;
 /// from being left alone, and fewer would turn from one test to the next too often.
 const BLOCK: usize = 512;
 
-/// What the body of a reply is written from.
+/// What the lines of rows are written from.
 #[derive(Drop)]
 pub struct Page<'a> {
     /// Where the values of cells take their memory.
@@ -31,207 +32,292 @@ pub struct Page<'a> {
     pub columns: &'a [ShownColumn],
 }
 
-/// What a line of a body shows.
-#[derive(Clone, Copy)]
-pub enum Line<'a> {
-    /// The names of the columns.
-    Names,
-    /// The cells of a row.
-    Row(&'a RowCells<'a>),
-}
-
 impl Page<'_> {
-    /// The body with the line of the names, where it is asked for. None where that has too many
-    /// bytes.
-    pub fn names(&self, head: bool) -> Result<Option<Vec<u8>>, Memory>
-        ensures { IfOk result
-            (λ body. IsBody body (csv (with_names head self.now.columns.now []))) }
+    /// Adds the lines of the rows that the query's filter chooses, as many as it shows.
+    pub fn push_shown(
+        &self,
+        writer: &mut Writer,
+        request: &Request,
+        rows: &[Row],
+    ) -> Result<(), WriteErr>
+        requires columns { self.now.columns.now ≡ request.now.columns }
+        requires some { 0 < length request.now.columns }
+        ensures lines { OnOk result (HasLines writer.old writer.new (first_lines request.now.limit
+            (map (row_cells request.now.columns)
+            (chosen request.now.filter (map (cell_of self.now.live.now.state) rows.now))))) }
+        ensures large { result ≡ Err TooLarge → IsTooLarge writer.old
+            (first_lines request.now.limit (map (row_cells request.now.columns)
+            (chosen request.now.filter (map (cell_of self.now.live.now.state) rows.now)))) }
     {
-        let mut body = Vec::new(self.alloc);
-        if head && !self.push_line(&mut body, Line::Names)? {
-            return Ok(None);
-        }
-        Ok(Some(body))
+        let most = most_rows(request.limit, rows.len());
+        self.push_chosen(writer, &request.filter, rows, most)
     }
 
-    /// Adds the lines of the rows that are shown. False where the body is too large with them. The
-    /// rows are tested block by block, and none after the last one that may be shown.
-    pub fn push_rows(
+    /// Adds the lines of the rows that a filter chooses, as many as may be shown. Where the filter
+    /// chooses each row none is tested.
+    fn push_chosen(
         &self,
-        body: &mut Vec<u8>,
+        writer: &mut Writer,
+        filter: &Filter,
+        rows: &[Row],
+        left: usize,
+    ) -> Result<(), WriteErr>
+        requires { 0 < length self.now.columns.now }
+        ensures lines { OnOk result (HasLines writer.old writer.new
+            (first_rows self.now.columns.now left
+            (chosen filter.now (map (cell_of self.now.live.now.state) rows.now)))) }
+        ensures large { result ≡ Err TooLarge → IsTooLarge writer.old
+            (first_rows self.now.columns.now left
+            (chosen filter.now (map (cell_of self.now.live.now.state) rows.now))) }
+    {
+        if filter.is_everything() {
+            return self.push_first(writer, rows, left);
+        }
+        let mut selection = Selection {
+            filter: filter.ready(self.alloc)?,
+            left,
+        };
+        self.push_rows(writer, &mut selection, rows)
+    }
+
+    /// Adds the lines of the first rows, as many as may be shown. No row is tested.
+    fn push_first(&self, writer: &mut Writer, rows: &[Row], most: usize) -> Result<(), WriteErr>
+        requires { 0 < length self.now.columns.now }
+        ensures lines { OnOk result (HasLines writer.old writer.new
+            (first_rows self.now.columns.now most
+            (map (cell_of self.now.live.now.state) rows.now))) }
+        ensures large { result ≡ Err TooLarge → IsTooLarge writer.old
+            (first_rows self.now.columns.now most
+            (map (cell_of self.now.live.now.state) rows.now)) }
+    {
+        self.push_each(writer, first_of(rows, most))
+    }
+
+    /// Adds the line of each row.
+    fn push_each(&self, writer: &mut Writer, rows: &[Row]) -> Result<(), WriteErr>
+        requires { 0 < length self.now.columns.now }
+        ensures lines { OnOk result (HasLines writer.old writer.new
+            (map (λ row. row_cells self.now.columns.now (cell_of self.now.live.now.state row))
+            rows.now)) }
+        ensures large { result ≡ Err TooLarge → IsTooLarge writer.old
+            (map (λ row. row_cells self.now.columns.now (cell_of self.now.live.now.state row))
+            rows.now) }
+    {
+        for row in rows {
+            self.push_row(writer, *row)?;
+        }
+        Ok(())
+    }
+
+    /// Adds the lines of the rows that are shown. The rows are tested block by block, and none after
+    /// the last one that may be shown.
+    fn push_rows(
+        &self,
+        writer: &mut Writer,
         selection: &mut Selection<'_>,
         rows: &[Row],
-    ) -> Result<bool, Memory>
-        requires { length body.old.items ≤ reply_limit }
-        ensures { IfOk result (λ fits. AddsText fits body.old.items body.new.items
-            (first_rows_text self.now.columns.now selection.old.left
+    ) -> Result<(), WriteErr>
+        requires { 0 < length self.now.columns.now }
+        ensures lines { OnOk result (HasLines writer.old writer.new
+            (first_rows self.now.columns.now selection.old.left
             (chosen selection.old.filter (map (cell_of self.now.live.now.state) rows.now)))) }
+        ensures large { result ≡ Err TooLarge → IsTooLarge writer.old
+            (first_rows self.now.columns.now selection.old.left
+            (chosen selection.old.filter (map (cell_of self.now.live.now.state) rows.now))) }
     {
         let mut at = 0;
         'blocks: while at < rows.len() && selection.left > 0 {
             let end = block_end(at, rows.len());
-            if !self.push_block(body, selection, &rows[at..end])? {
-                return Ok(false);
-            }
+            self.push_block(writer, selection, &rows[at..end])?;
             at = end;
         }
-        Ok(true)
+        Ok(())
     }
 
     /// The same for the rows of a block.
     fn push_block(
         &self,
-        body: &mut Vec<u8>,
+        writer: &mut Writer,
         selection: &mut Selection<'_>,
         rows: &[Row],
-    ) -> Result<bool, Memory>
-        requires { length body.old.items ≤ reply_limit }
-        ensures lines { IfOk result (λ fits. AddsText fits body.old.items body.new.items
-            (first_rows_text self.now.columns.now selection.old.left
+    ) -> Result<(), WriteErr>
+        requires { 0 < length self.now.columns.now }
+        ensures lines { OnOk result (HasLines writer.old writer.new
+            (first_rows self.now.columns.now selection.old.left
             (chosen selection.old.filter (map (cell_of self.now.live.now.state) rows.now)))) }
-        ensures left { IfOk result (λ fits. OnTrue fits (selection.new.left
-            ≡ selection.old.left - length (chosen selection.old.filter
-            (map (cell_of self.now.live.now.state) rows.now)))) }
+        ensures large { result ≡ Err TooLarge → IsTooLarge writer.old
+            (first_rows self.now.columns.now selection.old.left
+            (chosen selection.old.filter (map (cell_of self.now.live.now.state) rows.now))) }
+        ensures left { OnOk result (selection.new.left ≡ selection.old.left
+            - length (chosen selection.old.filter
+            (map (cell_of self.now.live.now.state) rows.now))) }
         ensures same { selection.new.filter ≡ selection.old.filter }
     {
         let marks = selection.marks(self.alloc, self.live, rows)?;
-        self.push_marked(body, selection, rows, &marks)
+        if !has_mark(&marks) {
+            return Ok(());
+        }
+        self.push_marked(writer, selection, rows, &marks)
     }
 
-    /// Adds the lines of the rows that are marked, as many as are left to show. False where the
-    /// body is too large with them.
+    /// Adds the lines of the rows that are marked, as many as are left to show.
     fn push_marked(
         &self,
-        body: &mut Vec<u8>,
+        writer: &mut Writer,
         selection: &mut Selection<'_>,
         rows: &[Row],
         marks: &[bool],
-    ) -> Result<bool, Memory>
-        requires small { length body.old.items ≤ reply_limit }
+    ) -> Result<(), WriteErr>
+        requires some { 0 < length self.now.columns.now }
         requires marks { length marks.now ≡ length rows.now }
-        ensures lines { IfOk result (λ fits. AddsText fits body.old.items body.new.items
-            (first_rows_text self.now.columns.now selection.old.left
+        ensures lines { OnOk result (HasLines writer.old writer.new
+            (first_rows self.now.columns.now selection.old.left
             (map (cell_of self.now.live.now.state) (marked marks.now rows.now)))) }
-        ensures left { IfOk result (λ fits. OnTrue fits (selection.new.left
-            ≡ selection.old.left - length (marked marks.now rows.now))) }
+        ensures large { result ≡ Err TooLarge → IsTooLarge writer.old
+            (first_rows self.now.columns.now selection.old.left
+            (map (cell_of self.now.live.now.state) (marked marks.now rows.now))) }
+        ensures left { OnOk result (selection.new.left
+            ≡ selection.old.left - length (marked marks.now rows.now)) }
         ensures same { selection.new.filter ≡ selection.old.filter }
     {
         for place in 0..rows.len() {
-            if marks[place] && !self.push_next(body, selection, rows[place])? {
-                return Ok(false);
+            if marks[place] {
+                self.push_next(writer, selection, rows[place])?;
             }
         }
-        Ok(true)
+        Ok(())
     }
 
-    /// Adds the line of a row where one is left to show. False where the body is too large with it.
+    /// Adds the line of a row where one is left to show.
     fn push_next(
         &self,
-        body: &mut Vec<u8>,
+        writer: &mut Writer,
         selection: &mut Selection<'_>,
         row: Row,
-    ) -> Result<bool, Memory>
-        requires { length body.old.items ≤ reply_limit }
-        ensures lines { IfOk result (λ fits. AddsText fits body.old.items body.new.items
-            (first_rows_text self.now.columns.now selection.old.left
+    ) -> Result<(), WriteErr>
+        requires { 0 < length self.now.columns.now }
+        ensures lines { OnOk result (HasLines writer.old writer.new
+            (first_rows self.now.columns.now selection.old.left
             (cell_of self.now.live.now.state row ∷ []))) }
+        ensures large { result ≡ Err TooLarge → IsTooLarge writer.old
+            (first_rows self.now.columns.now selection.old.left
+            (cell_of self.now.live.now.state row ∷ [])) }
         ensures left { selection.new.left ≡ selection.old.left - 1 }
         ensures same { selection.new.filter ≡ selection.old.filter }
     {
         if selection.left == 0 {
-            return Ok(true);
+            return Ok(());
         }
         selection.left -= 1;
-        self.push_row(body, row)
+        self.push_row(writer, row)
     }
 
-    /// Adds the line of a row. False where the body is too large with it.
-    fn push_row(&self, body: &mut Vec<u8>, row: Row) -> Result<bool, Memory>
-        ensures { IfOk result (λ fits. AddsText fits body.old.items body.new.items
-            (csv_line (row_line self.now.columns.now (cell_of self.now.live.now.state row)))) }
+    /// Adds the line of a row.
+    fn push_row(&self, writer: &mut Writer, row: Row) -> Result<(), WriteErr>
+        requires { 0 < length self.now.columns.now }
+        ensures lines { OnOk result (HasLines writer.old writer.new
+            (row_cells self.now.columns.now (cell_of self.now.live.now.state row) ∷ [])) }
+        ensures large { result ≡ Err TooLarge → IsTooLarge writer.old
+            (row_cells self.now.columns.now (cell_of self.now.live.now.state row) ∷ []) }
     {
         let cells = RowCells::of(self.live, row);
-        self.push_line(body, Line::Row(&cells))
+        self.push_cells(writer, &cells)
     }
 
-    /// Adds a line. False where the body is too large with it.
-    pub fn push_line(&self, body: &mut Vec<u8>, line: Line<'_>) -> Result<bool, Memory>
-        ensures { IfOk result (λ fits. AddsText fits body.old.items body.new.items
-            (csv_line (line_cells line.entry self.now.columns.now))) }
+    /// Adds the line of a row's cells.
+    fn push_cells(&self, writer: &mut Writer, cells: &RowCells<'_>) -> Result<(), WriteErr>
+        requires { 0 < length self.now.columns.now }
+        ensures lines { OnOk result (HasLines writer.old writer.new
+            (row_cells self.now.columns.now (cell_of cells.now.state cells.now.row) ∷ [])) }
+        ensures large { result ≡ Err TooLarge → IsTooLarge writer.old
+            (row_cells self.now.columns.now (cell_of cells.now.state cells.now.row) ∷ []) }
     {
-        let Some((first, later)) = self.columns.split_first() else {
-            body.push(b'\n')?;
-            return Ok(body.len() <= REPLY_LIMIT);
-        };
-        self.push_text(body, line, first)?;
-        for column in later {
-            if body.len() > REPLY_LIMIT {
-                return Ok(false);
-            }
-            body.push(b';')?;
-            self.push_text(body, line, column)?;
+        for column in self.columns {
+            self.push_cell(writer, cells, column)?;
         }
-        body.push(b'\n')?;
-        Ok(body.len() <= REPLY_LIMIT)
+        writer.end_line()
     }
 
-    /// Adds what a line shows in a column.
-    fn push_text(
-        &self,
-        body: &mut Vec<u8>,
-        line: Line<'_>,
-        column: &ShownColumn,
-    ) -> Result<(), Memory>
-        ensures { OnOk result
-            (body.new.items
-            ≡ body.old.items ++ line_cell line.entry column.now) }
-    {
-        match line {
-            Line::Names => push_name(body, column.column()),
-            Line::Row(cells) => self.push_cell(body, cells, column),
-        }
-    }
-
-    /// Adds the text of a cell. A number and a text of the data take no memory of their own.
+    /// Adds a cell to the open line. A number and a text of the data take no memory of their own.
     fn push_cell(
         &self,
-        body: &mut Vec<u8>,
+        writer: &mut Writer,
         cells: &RowCells<'_>,
         shown: &ShownColumn,
-    ) -> Result<(), Memory>
-        ensures { OnOk result
-            (body.new.items
-            ≡ body.old.items ++ cell_text (cell_of cells.now.state cells.now.row shown.now)) }
+    ) -> Result<(), WriteErr>
+        ensures ok { OnOk result (writer.new
+            ≡ with_cell writer.old (cell_of cells.now.state cells.now.row shown.now)) }
+        ensures cell { OnOk result (AddsCell writer.old writer.new
+            (cell_of cells.now.state cells.now.row shown.now)) }
+        ensures large { result ≡ Err TooLarge → IsTooLargeWith writer.old
+            (cell_of cells.now.state cells.now.row shown.now) }
     {
         let column = shown.column();
         match shown.kind() {
             ColKind::Int => match cells.number(column) {
-                Some(number) => push_number(body, number),
-                None => self.push_any(body, cells, column),
+                Some(number) => writer.number(number),
+                None => self.push_any(writer, cells, column),
             },
             ColKind::Str => match cells.text(column) {
-                Some(text) => body.extend_from_slice(text.as_bytes()),
-                None => self.push_any(body, cells, column),
+                Some(text) => writer.text(text),
+                None => self.push_any(writer, cells, column),
             },
-            ColKind::List | ColKind::Nums | ColKind::Pairs => self.push_any(body, cells, column),
+            ColKind::List | ColKind::Nums | ColKind::Pairs => self.push_any(writer, cells, column),
         }
     }
 
-    /// Adds the text of a cell of any kind. It stands apart so that plain cells make no room for a
-    /// value.
+    /// Adds a cell of any kind. It stands apart so that plain cells make no room for a value.
     #[inline(never)]
-    fn push_any(&self, body: &mut Vec<u8>, cells: &RowCells<'_>, column: Col) -> Result<(), Memory>
-        ensures { OnOk result
-            (body.new.items
-            ≡ body.old.items ++ cell_text (cell_of cells.now.state cells.now.row column)) }
+    fn push_any(
+        &self,
+        writer: &mut Writer,
+        cells: &RowCells<'_>,
+        column: Col,
+    ) -> Result<(), WriteErr>
+        ensures ok { OnOk result (writer.new
+            ≡ with_cell writer.old (cell_of cells.now.state cells.now.row column)) }
+        ensures cell { OnOk result (AddsCell writer.old writer.new
+            (cell_of cells.now.state cells.now.row column)) }
+        ensures large { result ≡ Err TooLarge → IsTooLargeWith writer.old
+            (cell_of cells.now.state cells.now.row column) }
     {
         let value = cells.value(self.alloc, column)?;
-        push_value(body, &value)
+        writer.cell(&value)
     }
 }
 
+/// How many of some rows are shown at most.
+fn most_rows(limit: Option<u64>, count: usize) -> usize
+    ensures none { limit ≡ None → result ≡ count }
+    ensures some { IfSome limit (λ most. result ≡ most) }
+{
+    match limit {
+        Some(most) => most as usize,
+        None => count,
+    }
+}
+
+/// The first of some rows, as many as there may be.
+#[tactic(auto, using(crate::proofs::RowLemmas::few_rows))]
+fn first_of(rows: &[Row], most: usize) -> &[Row]
+    ensures { result.now ≡ take most rows.now }
+{
+    if most < rows.len() {
+        &rows[..most]
+    } else {
+        rows
+    }
+}
+
+/// Whether a row is marked.
+pub fn has_mark(marks: &[bool]) -> bool
+    ensures { result ≡ list_any (λ mark. mark) marks.now }
+{
+    marks.iter().any(|mark| *mark)
+}
+
 /// Where the block that begins at a place ends.
-fn block_end(at: usize, count: usize) -> usize
+pub fn block_end(at: usize, count: usize) -> usize
     requires { at < count }
     ensures some { at < result }
     ensures within { result ≤ count }
@@ -241,13 +327,4 @@ fn block_end(at: usize, count: usize) -> usize
     } else {
         at + BLOCK
     }
-}
-
-/// Adds the whole name of a column.
-fn push_name(body: &mut Vec<u8>, column: Col) -> Result<(), Memory>
-    ensures { OnOk result (body.new.items ≡ body.old.items ++ full_name column) }
-{
-    let name = column_name(column);
-    body.extend_from_slice(name.prefix.as_bytes())?;
-    body.extend_from_slice(name.name.as_bytes())
 }

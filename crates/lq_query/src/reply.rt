@@ -1,20 +1,21 @@
-ghost use Rattle.std.specs.Prelude.{◌≡◌, None, IfOk, IfSome};
-ghost use Rattle.lq_query.specs.Answer.{answer_of, reply_lines};
-ghost use Rattle.lq_query.specs.Body.{IsBody};
-ghost use Rattle.lq_query.specs.Csv.{csv};
+ghost use Rattle.std.specs.Prelude.{◌≡◌, ◌<◌, ◌≤◌, [], true, All, Err, IfOk, OnOk, length};
+ghost use Rattle.lq_output.specs.Body.{body_limit};
+ghost use Rattle.lq_output.specs.declared.error.WriteErr.TheVariants.{TooLarge};
+ghost use Rattle.lq_request.specs.Reading.{ShowsCells};
+ghost use Rattle.lq_request.specs.Stats.{IsStat};
+ghost use Rattle.lq_query.specs.Answer.{answer_of, first_lines, headed, kept, line_of_names, reply_body, shown_lines, too_large, with_names};
+ghost use Rattle.lq_query.specs.Lines.{HasLines, IsTooLarge};
+ghost use Rattle.lq_output.specs.Header.{refusal_text};
 
 use crate::column::shown_columns;
+use crate::line::push_names;
 use crate::page::Page;
-use crate::selection::Selection;
 use lq_live::Live;
-use lq_records::{Items, Memory};
+use lq_output::{WriteErr, Writer, fixed16, refusal};
+use lq_records::{Items, Memory, Refusal, Text};
 use lq_request::Request;
 use lq_tables::rows;
-use std::alloc::Global;
-
-/// The most bytes that the body of a reply may have. A body of one byte more is replaced by the
-/// refusal 413.
-pub const REPLY_LIMIT: usize = 8_388_608;
+use std::alloc::{AllocError, Global};
 
 /// The code of a reply that is given whole.
 const OK: u16 = 200;
@@ -25,62 +26,123 @@ const TOO_LARGE: u16 = 413;
 /// The reply to a query: its code, and the bytes that are written.
 #[derive(Drop)]
 pub struct Reply {
-    /// 200, or 413 where the reply is too large.
+    /// 200, or 413 where the body is too large.
     pub code: u16,
-    /// The body, of `REPLY_LIMIT` bytes at most; none with 413.
+    /// The line of 16 bytes where the query asks for it, and the body, of 8,388,608 bytes at most;
+    /// with 413 that line and a refusal, or nothing.
     pub bytes: Items<u8>,
 }
 
-/// Answers a query: 200, the names of the columns where the query asks for them and a line for each
-/// row of the table that its filter chooses, as many as its limit says, or 413 and no byte where
-/// the lines have more than `REPLY_LIMIT` bytes. The only error is out of memory.
+/// Answers a query that shows a column or a statistic: 200 and the line of names where the query
+/// asks for it, then a line for each row of the table that its filter chooses, or with statistics
+/// for each group of these rows, as many as its limit says. 413 and `reply too large` where the body
+/// would have more than 8,388,608 bytes. The only error is out of memory.
 pub fn answer(alloc: Global, live: &Live, request: &Request) -> Result<Reply, Memory>
+    requires cells { ShowsCells request.now }
+    requires stats { All IsStat request.now.stats }
     ensures { IfOk result (λ reply. reply ≡ answer_of request.now live.now.state) }
 {
-    match body(alloc, live, request)? {
-        Some(bytes) => Ok(Reply {
-            code: OK,
-            bytes: Items::from_vec(bytes),
-        }),
-        None => Ok(Reply {
-            code: TOO_LARGE,
-            bytes: Items::new(alloc),
-        }),
+    match body(alloc, live, request) {
+        Ok(body) => whole_reply(alloc, request.fixed16, body),
+        Err(WriteErr::TooLarge) => large_reply(alloc, request.fixed16),
+        Err(WriteErr::Memory) => Err(AllocError),
     }
 }
 
-/// The line of the names and the lines of the rows. None where they have too many bytes.
-fn body(alloc: Global, live: &Live, request: &Request) -> Result<Option<Vec<u8>>, Memory>
-    ensures { IfOk result (λ body. IsBody body (csv (reply_lines request.now live.now.state))) }
+/// The body of a reply. `TooLarge` exactly where it would have too many bytes.
+fn body(alloc: Global, live: &Live, request: &Request) -> Result<Items<u8>, WriteErr>
+    requires cells { ShowsCells request.now }
+    requires stats { All IsStat request.now.stats }
+    ensures body { IfOk result (λ body. body ≡ reply_body request.now live.now.state) }
+    ensures fits { IfOk result (λ body. length body ≤ body_limit) }
+    ensures large { result ≡ Err TooLarge
+        → body_limit < length (reply_body request.now live.now.state) }
+{
+    let mut writer = Writer::new(alloc, request.format, request.separators)?;
+    push_head(alloc, &mut writer, request)?;
+    push_lines(alloc, &mut writer, live, request)?;
+    writer.finish()
+}
+
+/// Adds the line of names where it is asked for.
+fn push_head(alloc: Global, writer: &mut Writer, request: &Request) -> Result<(), WriteErr>
+    requires { ShowsCells request.now }
+    ensures lines { OnOk result (HasLines writer.old writer.new
+        (with_names request.now.head (line_of_names request.now) [])) }
+    ensures large { result ≡ Err TooLarge → IsTooLarge writer.old
+        (with_names request.now.head (line_of_names request.now) []) }
+{
+    if request.head {
+        push_names(alloc, writer, request)
+    } else {
+        Ok(())
+    }
+}
+
+/// Adds the lines of the rows, or those of the groups.
+fn push_lines(
+    alloc: Global,
+    writer: &mut Writer,
+    live: &Live,
+    request: &Request,
+) -> Result<(), WriteErr>
+    requires cells { ShowsCells request.now }
+    requires stats { All IsStat request.now.stats }
+    ensures lines { OnOk result (HasLines writer.old writer.new (first_lines request.now.limit
+        (shown_lines request.now (kept request.now live.now.state)))) }
+    ensures large { result ≡ Err TooLarge → IsTooLarge writer.old (first_lines request.now.limit
+        (shown_lines request.now (kept request.now live.now.state))) }
 {
     let columns = shown_columns(alloc, request.columns.as_slice())?;
+    let rows = rows(alloc, live, request.table)?;
     let page = Page {
         alloc,
         live,
         columns: &columns,
     };
-    let Some(mut body) = page.names(request.head)? else {
-        return Ok(None);
-    };
-    let rows = rows(alloc, live, request.table)?;
-    let mut selection = Selection {
-        filter: request.filter.ready(alloc)?,
-        left: most_rows(request.limit, rows.len()),
-    };
-    if page.push_rows(&mut body, &mut selection, rows.as_slice())? {
-        Ok(Some(body))
+    if request.stats.is_empty() {
+        page.push_shown(writer, request, rows.as_slice())
     } else {
-        Ok(None)
+        page.push_groups(writer, request, rows.as_slice())
     }
 }
 
-/// How many of some rows are shown at most.
-fn most_rows(limit: Option<u64>, count: usize) -> usize
-    ensures none { limit ≡ None → result ≡ count }
-    ensures some { IfSome limit (λ most. result ≡ most) }
+/// The reply with a body.
+fn whole_reply(alloc: Global, fixed16: bool, body: Items<u8>) -> Result<Reply, Memory>
+    requires { length body ≤ body_limit }
+    ensures { IfOk result (λ reply. reply ≡ record { code = 200; bytes = headed fixed16 body }) }
 {
-    match limit {
-        Some(most) => most as usize,
-        None => count,
-    }
+    let bytes = if fixed16 {
+        with_header(alloc, body)?
+    } else {
+        body
+    };
+    Ok(Reply { code: OK, bytes })
+}
+
+/// A body with the line of 16 bytes before it.
+fn with_header(alloc: Global, body: Items<u8>) -> Result<Items<u8>, Memory>
+    requires { length body ≤ body_limit }
+    ensures { IfOk result (λ bytes. bytes ≡ headed true body) }
+{
+    let body = body.into_vec();
+    let mut bytes = Vec::with_capacity(alloc, body.len() + 16)?;
+    bytes.extend_from_slice(&fixed16(OK, body.len() as u64))?;
+    bytes.extend_from_slice(&body)?;
+    Ok(Items::from_vec(bytes))
+}
+
+/// The reply in place of a body that is too large.
+fn large_reply(alloc: Global, fixed16: bool) -> Result<Reply, Memory>
+    ensures { IfOk result
+        (λ reply. reply ≡ record { code = 413; bytes = refusal_text too_large fixed16 }) }
+{
+    let refused = Refusal {
+        code: TOO_LARGE,
+        text: Text::new(alloc, "reply too large")?,
+    };
+    Ok(Reply {
+        code: TOO_LARGE,
+        bytes: refusal(alloc, &refused, fixed16)?,
+    })
 }

@@ -4,13 +4,13 @@ ghost use Rattle.lq_filter.specs.declared.header.Header.{Header};
 ghost use Rattle.lq_schema.specs.Value.{Number, Words, shown};
 ghost use Rattle.lq_tables.specs.Cells.{cell_of};
 
-use lq_filter::{Cells, ReadyFilter};
+use crate::row_test::{HostContact, HostNumber, ServiceContact, ServiceNumber, keep_first};
+use lq_filter::{ElementCheck, NumberCheck, ReadyFilter, Scan};
 use lq_live::Live;
 use lq_records::Memory;
-use lq_schema::{Col, Val};
+use lq_schema::{Col, HostColumn, ObjectColumn, OwnColumn, ServiceColumn, Val};
 use lq_tables::{Row, RowCells, row_contains, row_number, row_text};
 use std::alloc::Global;
-use std::marker::Model;
 
 /// Which rows are shown: those that a filter chooses, as many as are left to show.
 #[derive(Drop)]
@@ -28,61 +28,103 @@ impl Selection<'_> {
             ≡ map (λ row. holds (truth_on (cell_of live.now.state row)) self.old.filter) rows.now) }
         ensures same { self.new ≡ self.old }
     {
-        let rows = tested_rows(alloc, live, rows)?;
-        self.filter.marks(alloc, &rows)
+        marks_of(alloc, &mut self.filter, live, rows)
     }
 }
 
-/// A row at a state, whose cells a filter tests. Contracts see it as the state and the row.
-#[derive(Drop)]
-struct TestedRow<'a> {
-    live: &'a Live,
-    row: Row,
-}
-
-impl<'a> Model for TestedRow<'a> {
-    ghost use Rattle.lq_tables.specs.Cells.{StateRow};
-
-    ghost Value = { StateRow };
-
-    ghost view = { λ tested. record { state = tested.live.now.state; row = tested.row } };
-}
-
-impl Cells for TestedRow<'_> {
-    ghost has = { λ _ _. ⊤ };
-
-    ghost cell = { λ tested column. cell_of tested.state tested.row column };
-
-    fn get(&self, alloc: Global, c: Col) -> Result<Val<'_>, Memory>
-        ensures { IfOk result (λ value. shown value ≡ cell_of self.now.state self.now.row c) }
-    {
-        RowCells::of(self.live, self.row).value(alloc, c)
-    }
-
-    fn number(&self, c: Col) -> Option<i128> {
-        row_number(self.live, self.row, c)
-    }
-
-    fn text(&self, c: Col) -> Option<&str> {
-        row_text(self.live, self.row, c)
-    }
-
-    fn contains(&self, c: Col, text: &str) -> Option<bool> {
-        row_contains(self.live, self.row, c, text)
-    }
-}
-
-fn tested_rows<'a>(
+/// Which of some rows a filter chooses, row by row. The only error is out of memory.
+pub fn marks_of(
     alloc: Global,
-    live: &'a Live,
+    filter: &mut ReadyFilter<'_>,
+    live: &Live,
     rows: &[Row],
-) -> Result<Vec<TestedRow<'a>>, Memory>
-    ensures { IfOk result (λ tested.
-        tested.items ≡ map (λ row. record { state = live.now.state; row = row }) rows.now) }
+) -> Result<Vec<bool>, Memory>
+    ensures marks { IfOk result (λ marks. marks.items
+        ≡ map (λ row. holds (truth_on (cell_of live.now.state row)) filter.old) rows.now) }
+    ensures same { filter.new ≡ filter.old }
 {
-    let mut tested = Vec::with_capacity(alloc, rows.len())?;
-    for row in rows {
-        tested.push(TestedRow { live, row: *row })?;
+    filter.marks(alloc, &LiveScan { live }, rows)
+}
+
+/// The rows of a state, whose cells a filter tests.
+#[derive(Drop)]
+struct LiveScan<'a> {
+    live: &'a Live,
+}
+
+impl Scan for LiveScan<'_> {
+    type Row = Row;
+
+    ghost has = { λ _ _ _. ⊤ };
+
+    ghost cell = { λ scan row column. cell_of scan.live.now.state row column };
+
+    fn get(&self, alloc: Global, row: Row, c: Col) -> Result<Val<'_>, Memory>
+        ensures { IfOk result (λ value. shown value ≡ cell_of self.now.live.now.state row c) }
+    {
+        RowCells::of(self.live, row).value(alloc, c)
     }
-    Ok(tested)
+
+    #[inline]
+    fn number(&self, row: Row, c: Col) -> Option<i128> {
+        row_number(self.live, row, c)
+    }
+
+    #[inline]
+    fn text(&self, row: Row, c: Col) -> Option<&str> {
+        row_text(self.live, row, c)
+    }
+
+    #[inline]
+    fn contains(&self, row: Row, c: Col, text: &str) -> Option<bool> {
+        row_contains(self.live, row, c, text)
+    }
+
+    fn keep_numbers(&self, rows: &[Row], c: Col, check: NumberCheck, marks: &mut [bool]) -> usize {
+        let live = self.live;
+        match c.own {
+            OwnColumn::Host(column) => {
+                keep_first(
+                    &HostNumber {
+                        live,
+                        column,
+                        check,
+                    },
+                    rows,
+                    marks,
+                )
+            }
+            OwnColumn::Service(column) => {
+                keep_first(
+                    &ServiceNumber {
+                        live,
+                        column,
+                        check,
+                    },
+                    rows,
+                    marks,
+                )
+            }
+            _ => 0,
+        }
+    }
+
+    fn keep_elements(
+        &self,
+        rows: &[Row],
+        c: Col,
+        check: ElementCheck<'_>,
+        marks: &mut [bool],
+    ) -> usize {
+        let live = self.live;
+        match c.own {
+            OwnColumn::Host(HostColumn::Object(ObjectColumn::Contacts)) => {
+                keep_first(&HostContact::of(live, check), rows, marks)
+            }
+            OwnColumn::Service(ServiceColumn::Object(ObjectColumn::Contacts)) => {
+                keep_first(&ServiceContact::of(live, check), rows, marks)
+            }
+            _ => 0,
+        }
+    }
 }

@@ -175,6 +175,7 @@ fn is_nothing(value: &Val<'_>) -> bool {
         Val::Str(text) => text.is_empty(),
         Val::Own(text) => text.as_str().is_empty(),
         Val::List(texts) => texts.is_empty(),
+        Val::Micro(micro) => micro.millionths == 0,
         Val::Nums(numbers) => numbers.is_empty(),
         Val::Pairs(pairs) => pairs.is_empty(),
     }

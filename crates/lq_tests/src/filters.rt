@@ -4,7 +4,9 @@
 ghost use Rattle.std.specs.Prelude.{⊤};
 ghost use Rattle.lq_schema.specs.Value.{Number};
 
-use crate::fixture::{SITE, Site, Step, assert_same, assert_steps, base_of, push_all};
+use crate::fixture::{
+    Asked, SITE, Site, Step, assert_asked, assert_same, assert_steps, base_of, push_all,
+};
 use lq_filter::{Cells, Filter};
 use lq_records::{Base, Memory};
 use lq_request::read_request;
@@ -12,37 +14,6 @@ use lq_schema::{Col, Val};
 use std::alloc::{AllocError, Global};
 use std::process::Abort;
 use std::test::Fail;
-
-/// The front of some queries, and the end of each with what it is answered.
-type Asked<'a> = (&'a str, &'a [(&'a str, &'a str)]);
-
-fn assert_each<R: Abort + AllocGlobal>(
-    rt: &R,
-    site: &Site,
-    (front, cases): Asked<'_>,
-) -> Result<(), Fail> {
-    for (end, expected) in cases {
-        let query = format!(in rt.alloc(); "{front}{end}")?;
-        let replies = site.ask(rt.alloc(), query.as_str())?;
-        assert_same(rt, replies.as_str(), *expected, &query.as_str());
-    }
-    Ok(())
-}
-
-/// Compares what queries are answered after commands.
-fn assert_asked<R: Abort + AllocGlobal>(
-    rt: &R,
-    objects: &[u8],
-    commands: &str,
-    queries: &[Asked<'_>],
-) -> Result<(), Fail> {
-    let mut site = Site::open(rt.alloc(), objects, objects)?;
-    site.play(rt.alloc(), commands)?;
-    for asked in queries {
-        assert_each(rt, &site, *asked)?;
-    }
-    Ok(())
-}
 
 // ---- operators
 

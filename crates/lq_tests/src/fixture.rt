@@ -1,7 +1,9 @@
 //! The objects of a small site, and the ways to play commands on it and to ask it.
 
-ghost use Rattle.std.specs.Prelude.{IfOk};
+ghost use Rattle.std.specs.Prelude.{All, IfOk};
 ghost use Rattle.lq_records.specs.Sound.{IsSound};
+ghost use Rattle.lq_request.specs.Reading.{ShowsCells};
+ghost use Rattle.lq_request.specs.Stats.{IsStat};
 
 use lq_commands::{Order, read_command};
 use lq_events::{Act, Update};
@@ -249,7 +251,10 @@ impl Site {
         alloc: Global,
         replies: &mut Vec<u8>,
         request: &Request,
-    ) -> Result<(), AllocError> {
+    ) -> Result<(), AllocError>
+        requires cells { ShowsCells request.now }
+        requires stats { All IsStat request.now.stats }
+    {
         let reply = answer(alloc, &self.live, request)?;
         if reply.code != 200 {
             return replies.extend_from_slice(b"too large");
@@ -315,6 +320,37 @@ pub(crate) fn assert_replies<R: Abort + AllocGlobal>(
     for (queries, expected) in cases {
         let replies = asked(rt.alloc(), objects, commands, *queries)?;
         assert_same(rt, replies.as_str(), *expected, queries);
+    }
+    Ok(())
+}
+
+/// The front of some queries, and the end of each with what it is answered.
+pub(crate) type Asked<'a> = (&'a str, &'a [(&'a str, &'a str)]);
+
+fn assert_each<R: Abort + AllocGlobal>(
+    rt: &R,
+    site: &Site,
+    (front, cases): Asked<'_>,
+) -> Result<(), Fail> {
+    for (end, expected) in cases {
+        let query = format!(in rt.alloc(); "{front}{end}")?;
+        let replies = site.ask(rt.alloc(), query.as_str())?;
+        assert_same(rt, replies.as_str(), *expected, &query.as_str());
+    }
+    Ok(())
+}
+
+/// Compares what queries are answered after commands.
+pub(crate) fn assert_asked<R: Abort + AllocGlobal>(
+    rt: &R,
+    objects: &[u8],
+    commands: &str,
+    queries: &[Asked<'_>],
+) -> Result<(), Fail> {
+    let mut site = Site::open(rt.alloc(), objects, objects)?;
+    site.play(rt.alloc(), commands)?;
+    for asked in queries {
+        assert_each(rt, &site, *asked)?;
     }
     Ok(())
 }

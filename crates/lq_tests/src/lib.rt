@@ -11,10 +11,14 @@ mod filters;
 #[cfg(test)]
 mod fixture;
 #[cfg(test)]
+mod formats;
+#[cfg(test)]
 mod live;
 #[cfg(test)]
 mod objects;
 #[cfg(test)]
 mod schema;
+#[cfg(test)]
+mod stats;
 #[cfg(test)]
 mod tables;

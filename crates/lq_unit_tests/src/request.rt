@@ -533,7 +533,10 @@ const HEADERS: &[(&[u8], &str)] = &[
     (b"GET hosts\ncolumns: name", "400 unknown header: columns"),
     (b"GET hosts\nColumns : name", "400 unknown header: Columns "),
     (b"GET hosts\n Columns: name", "400 unknown header:  Columns"),
-    (b"GET hosts\nStats: state = 0", "400 unknown header: Stats"),
+    (
+        b"GET hosts\nStatistics: state = 0",
+        "400 unknown header: Statistics",
+    ),
     (b"GET hosts\n: name", "400 unknown header: "),
     (b"GET hosts\nColumns:", "400 bad value for Columns"),
     (
@@ -547,8 +550,121 @@ const HEADERS: &[(&[u8], &str)] = &[
         "400 not UTF-8",
     ),
     (
-        b"GET hosts\nStats: state = 0\nColumns: nope",
-        "400 unknown header: Stats",
+        b"GET hosts\nStatistics: state = 0\nColumns: nope",
+        "400 unknown header: Statistics",
+    ),
+];
+
+/// Formats, switches and statistics that aren't well formed, and those that are.
+const FORMATS_AND_STATS: &[(&[u8], &str)] = &[
+    (
+        b"GET hosts\nOutputFormat: python",
+        "400 bad value for OutputFormat",
+    ),
+    (
+        b"GET hosts\nOutputFormat: JSON",
+        "400 bad value for OutputFormat",
+    ),
+    (
+        b"GET hosts\nSeparators: 10 59 44",
+        "400 bad value for Separators",
+    ),
+    (
+        b"GET hosts\nSeparators: 10 59 44 256",
+        "400 bad value for Separators",
+    ),
+    (
+        b"GET hosts\nSeparators: 10 59 44 124 9",
+        "400 bad value for Separators",
+    ),
+    (
+        b"GET hosts\nResponseHeader: on",
+        "400 bad value for ResponseHeader",
+    ),
+    (b"GET hosts\nLocaltime: -1", "400 bad value for Localtime"),
+    (b"GET hosts\nTimelimit:", "400 bad value for Timelimit"),
+    (b"GET hosts\nStats:", "400 bad value for Stats"),
+    (b"GET hosts\nStats: state", "400 bad value for Stats"),
+    (b"GET hosts\nStats: sum", "400 bad value for Stats"),
+    (
+        b"GET hosts\nStats: sum state state",
+        "400 bad value for Stats",
+    ),
+    (b"GET hosts\nStats: std nope x", "400 bad value for Stats"),
+    (
+        b"GET hosts\nStats: std state",
+        "400 aggregate not supported: std",
+    ),
+    (
+        b"GET hosts\nStats: suminv nope",
+        "400 aggregate not supported: suminv",
+    ),
+    (
+        b"GET hosts\nStats: avginv state",
+        "400 aggregate not supported: avginv",
+    ),
+    (b"GET hosts\nStats: sum nope", "450 unknown column: nope"),
+    (b"GET hosts\nStats: nope = 0", "450 unknown column: nope"),
+    (
+        b"GET hosts\nStats: max name",
+        "400 operator not allowed for name",
+    ),
+    (
+        b"GET hosts\nStats: state ~ 0",
+        "400 operator not allowed for state",
+    ),
+    (
+        b"GET hosts\nStatsAnd: 1",
+        "400 stack too short for StatsAnd",
+    ),
+    (
+        b"GET hosts\nStats: state = 0\nStatsOr: 2",
+        "400 stack too short for StatsOr",
+    ),
+    (
+        b"GET hosts\nStats: state = 0\nStatsAnd: 0",
+        "400 stack too short for StatsAnd",
+    ),
+    (
+        b"GET hosts\nStatsNegate:",
+        "400 stack too short for StatsNegate",
+    ),
+    (
+        b"GET hosts\nStats: sum state\nStatsOr: 2",
+        "400 stack too short for StatsOr",
+    ),
+    (
+        b"GET hosts\nStats: sum state\nStatsAnd: 1",
+        "400 aggregate in StatsAnd",
+    ),
+    (
+        b"GET hosts\nStats: state = 0\nStats: avg state\nStatsOr: 2",
+        "400 aggregate in StatsOr",
+    ),
+    (
+        b"GET hosts\nStats: min state\nStatsNegate:",
+        "400 aggregate in StatsNegate",
+    ),
+    (b"GET hosts\nStats: sum state\nStats: name = a", "hosts"),
+    (
+        b"GET hosts\nColumns: name\nStats: state = 0\nStats: state = 1\nStatsAnd: 2",
+        "hosts name",
+    ),
+    (
+        b"GET hosts\nStats: state = 0\nColumnHeaders: on",
+        "hosts+names",
+    ),
+    (
+        b"GET hosts\nColumns: nope\nResponseHeader: fixed16",
+        "fixed16",
+    ),
+    (
+        b"GET hosts\nColumns: name\nResponseHeader: fixed16\nResponseHeader: off",
+        "hosts name",
+    ),
+    (
+        b"GET hosts\nColumns: name\nOutputFormat: json\nSeparators: 0 0 0 0\nLocaltime: 5",
+        "hosts name",
     ),
 ];
 
@@ -847,6 +963,7 @@ fn requests_are_read_or_refused(rt: HostRuntime) -> Result<(), Fail> {
         FIRST_LINES,
         HEADERS,
         UNKNOWN_COLUMNS,
+        FORMATS_AND_STATS,
         MOST_ROWS,
         TESTS,
         NOT_ALLOWED,

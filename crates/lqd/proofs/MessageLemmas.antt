@@ -6,7 +6,9 @@ use Rattle.std.proofs.KnownBytes.{Appends-nil}
 use Rattle.lq_request.specs.Messages.{message_limit, Message, Piece, Query, Command, TooLong, Empty, More, messages, whole_messages, first_piece, message_of, message_at, whole, command_from, query_from, IsCutOff, IsLast}
 use Rattle.lq_request.specs.Request.{asked}
 use Rattle.lq_live.specs.State.{Counted}
-use Rattle.lqd.specs.Replies.{after_piece, keeps, reply_to}
+use Rattle.lq_output.specs.Header.{refusal_text}
+use Rattle.lq_request.specs.Style.{style_of}
+use Rattle.lqd.specs.Replies.{after_piece, keeps, reply_to, too_long}
 use Rattle.lqd.specs.Session.{ComesFirst, Serves, ServesLast, FindsNone, Breaks, BreaksReply}
 use Rattle.lqd.specs.declared.session.ServeErr.{ServeErr}
 use Rattle.lqd.specs.declared.session.ServeErr.TheVariants as error
@@ -56,17 +58,30 @@ command_served ended held left text old new out cut state = record {
   written = Appends-nil out;
 }
 
-pub too_long_served : (ended : Bool) (held front : List ℕ) (old : Counted) (out : Option (List ℕ)) → IsLast ended held (TooLong front)
-    → ServesLast ended held old out out
-too_long_served ended held front old out is = record {
-  piece = TooLong front;
-  first = record {
-    all = λ rest closed. ([], is.all rest closed);
-    known = λ rest more. ([], is.known rest more);
-  };
-  last = refl;
-  written = Appends-nil out;
+last_first : (ended : Bool) (held front : List ℕ) → IsLast ended held (TooLong front) → ComesFirst ended held (TooLong front)
+last_first ended held front is = record {
+  all = λ rest closed. ([], is.all rest closed);
+  known = λ rest more. ([], is.known rest more);
 }
+
+pub too_long_served : (ended : Bool) (held front : List ℕ) (old : Counted) (out_old out : Option (List ℕ)) → IsLast ended held (TooLong front)
+    → Appends out_old out (refusal_text too_long (style_of front).fixed16) → ServesLast ended held old out_old out
+too_long_served ended held front old out_old out is written = record {
+  piece = TooLong front;
+  first = last_first ended held front is;
+  last = refl;
+  written = written;
+}
+
+pub too_long_broken : (fault : ServeErr) (ended : Bool) (held front : List ℕ) (old : Counted) (out_old out : Option (List ℕ)) → IsLast ended held (TooLong front)
+    → BreaksReply fault (refusal_text too_long (style_of front).fixed16) out_old out → Breaks fault ended held old out_old out
+too_long_broken error.Read ended held front old out_old out is breaks = breaks
+too_long_broken error.Write ended held front old out_old out is breaks = record {
+  piece = TooLong front;
+  first = last_first ended held front is;
+  front = breaks;
+}
+too_long_broken error.Memory ended held front old out_old out is breaks = breaks
 
 -- ---- no message is left only at the end of the input
 

@@ -1,5 +1,5 @@
 -- What a connection is answered, over all its messages.
-use Rattle.std.specs.Prelude.{ℕ, ◌+◌, nat_le, Bool, true, false, not, ◌||◌, Option, Some, None, Result, Ok, Err, List, [], ◌∷◌, ◌++◌, length, take, if◌then◌else◌}
+use Rattle.std.specs.Prelude.{ℕ, ◌+◌, nat_le, Bool, true, false, not, ◌||◌, Option, Some, None, Result, Ok, Err, List, [], ◌∷◌, ◌++◌, codes, length, take, if◌then◌else◌}
 use Rattle.std.specs.List.{list_any}
 use Rattle.lq_events.specs.declared.update.Update.{Update}
 use Rattle.lq_commands.specs.Orders.{order_of}
@@ -9,27 +9,34 @@ use Rattle.lq_live.specs.Step.{step}
 use Rattle.lq_request.specs.Messages.{Piece, Query, Command, TooLong, Empty, More, messages}
 use Rattle.lq_request.specs.Request.{Refused, asked}
 use Rattle.lq_request.specs.declared.request.Request.{Request}
+use Rattle.lq_request.specs.Style.{style_of}
+use Rattle.lq_output.specs.Header.{refusal_text}
 use Rattle.lq_query.specs.Answer.{answer_of}
+use Rattle.lq_records.specs.declared.refusal.Refusal.{Refusal}
 
 -- ---- one message
 
--- the bytes of a query's reply; a refusal writes no byte, since the header that asks for its text
--- isn't built
+-- the bytes of a query's reply; the text of a refusal is written where the query asks for the line
+-- of 16 bytes
 abbrev pub reply_to : Result Request Refused → State → List ℕ
 reply_to (Ok request) s = (answer_of request s).bytes
-reply_to (Err refused) s = []
+reply_to (Err refused) s = refusal_text refused.refusal refused.style.fixed16
 
 -- whether the connection goes on after a query
 abbrev pub keeps : Result Request Refused → Bool
 keeps (Ok request) = request.keep
 keeps (Err refused) = refused.style.keep
 
--- The bytes that a message is answered with at a state. A too long message gets none, for the same
--- reason as a refused query. A command never gets a reply.
+-- what refuses a message that is too long
+abbrev pub too_long : Refusal
+too_long = record { code = 413; text = codes "request too large" }
+
+-- The bytes that a message is answered with at a state. A too long message is refused in the style
+-- of its front. A command never gets a reply.
 abbrev pub reply_to_piece : Piece → State → List ℕ
 reply_to_piece (Query text) s = reply_to (asked text) s
 reply_to_piece (Command text) s = []
-reply_to_piece (TooLong front) s = []
+reply_to_piece (TooLong front) s = refusal_text too_long (style_of front).fixed16
 reply_to_piece Empty s = []
 reply_to_piece More s = []
 

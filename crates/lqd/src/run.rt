@@ -23,8 +23,8 @@ use std::alloc::Global;
 /// a query without `KeepAlive: on`, after a message that is too long, after the 10,000th message,
 /// or with the input. The answer is the status that the program ends with:
 ///
-/// - 0: all messages up to the end of the connection were served. A command, a refused query and a
-///   message that is too long write nothing.
+/// - 0: all messages up to the end of the connection were served. A command writes nothing; neither
+///   does a refused query or a message that is too long without `ResponseHeader: fixed16`.
 /// - 1: the words are outside the grammar.
 /// - 2: the object file is refused, or has more than 67,108,864 bytes.
 /// - 4: the object file is missing or can't be read.

@@ -5,19 +5,22 @@ ghost use Rattle.lq_outside.specs.Sinks.{AppendsFront};
 ghost use Rattle.lq_records.specs.Sound.{IsSound};
 ghost use Rattle.lq_live.specs.State.{opened};
 ghost use Rattle.lq_request.specs.Messages.{Command, Query, message_limit};
+ghost use Rattle.lq_output.specs.Header.{refusal_text};
 ghost use Rattle.lq_request.specs.Request.{asked};
+ghost use Rattle.lq_request.specs.Style.{style_of};
 ghost use Rattle.lqd.specs.Reading.{ReadsAll, ReadsNoFurther};
-ghost use Rattle.lqd.specs.Replies.{after_piece, keeps, opening, replies, reply_to, update_of};
+ghost use Rattle.lqd.specs.Replies.{after_piece, keeps, opening, replies, reply_to, too_long, update_of};
 ghost use Rattle.lqd.specs.Session.{Breaks, BreaksReply, Does, Fills, Stops};
 
 use lq_commands::{CommandErr, Order, read_command};
 use lq_events::Update;
 use lq_live::Live;
 use lq_log::LogBook;
+use lq_output::refusal;
 use lq_outside::{Failed, Sink, Source, write_all};
 use lq_query::answer;
-use lq_records::{Base, Items, Memory};
-use lq_request::{Cut, Cutting, ReadErr, read_request};
+use lq_records::{Base, Items, Memory, Refusal, Text};
+use lq_request::{Cut, Cutting, ReadErr, read_request, reply_style};
 use std::alloc::{AllocError, Global};
 use std::marker::Model;
 
@@ -233,7 +236,10 @@ impl Session {
                 Ok(()) => Ok(Next::On),
                 Err(_) => Err(ServeErr::Memory),
             },
-            Cutting::TooLong(_) => Ok(Next::Last),
+            Cutting::TooLong(front) => match self.refuse(front, output) {
+                Ok(()) => Ok(Next::Last),
+                Err(error) => Err(error),
+            },
             Cutting::Empty => Ok(Next::Closed),
             Cutting::More => Ok(Next::More),
         }
@@ -252,13 +258,26 @@ impl Session {
             → Rose (K.faults output.old) (K.faults output.new) }
     {
         let answered = self.reply(text)?;
-        match write_all(output, answered.bytes.as_slice()) {
-            Ok(()) => Ok(answered.keep),
-            Err(_) => Err(ServeErr::Write),
-        }
+        write_reply(output, answered.bytes.as_slice())?;
+        Ok(answered.keep)
     }
 
-    /// The reply to a query. A refusal writes nothing.
+    /// Writes the reply to a message that is too long, in the style of its front.
+    fn refuse<K: Sink>(&self, front: &[u8], output: &mut K) -> Result<(), ServeErr>
+        ensures ok { OnOk result (Appends (K.held output.old) (K.held output.new)
+            (refusal_text too_long (style_of front.now).fixed16)) }
+        ensures broken { IfErr result (λ error.
+            BreaksReply error (refusal_text too_long (style_of front.now).fixed16)
+            (K.held output.old) (K.held output.new)) }
+        ensures later { K.faults output.old ≤ K.faults output.new }
+        ensures cause { result ≡ Err ServeErr.Write
+            → Rose (K.faults output.old) (K.faults output.new) }
+    {
+        let bytes = long_refusal(self.alloc, reply_style(front).fixed16)?;
+        write_reply(output, bytes.as_slice())
+    }
+
+    /// The reply to a query.
     fn reply(&self, text: &[u8]) -> Result<Answered, Memory>
         ensures bytes { IfOk result
             (λ answered. answered.bytes ≡ reply_to (asked text.now) self.now.state) }
@@ -269,8 +288,14 @@ impl Session {
                 bytes: answer(self.alloc, &self.live, &request)?.bytes,
                 keep: request.keep,
             }),
-            Err(ReadErr::Refused { keep, .. }) => Ok(Answered {
-                bytes: Items::new(self.alloc),
+            Err(
+                ReadErr::Refused {
+                    refusal,
+                    fixed16,
+                    keep,
+                },
+            ) => Ok(Answered {
+                bytes: refusal_bytes(self.alloc, &refusal, fixed16)?,
                 keep,
             }),
             Err(ReadErr::Memory) => Err(AllocError),
@@ -287,6 +312,45 @@ impl Session {
             Err(CommandErr::Memory) => Err(AllocError),
         }
     }
+}
+
+/// Writes a reply.
+fn write_reply<K: Sink>(output: &mut K, bytes: &[u8]) -> Result<(), ServeErr>
+    ensures ok { OnOk result (Appends (K.held output.old) (K.held output.new) bytes.now) }
+    ensures broken { IfErr result (λ error.
+        BreaksReply error bytes.now (K.held output.old) (K.held output.new)) }
+    ensures later { K.faults output.old ≤ K.faults output.new }
+    ensures cause { result ≡ Err ServeErr.Write
+        → Rose (K.faults output.old) (K.faults output.new) }
+{
+    match write_all(output, bytes) {
+        Ok(()) => Ok(()),
+        Err(_) => Err(ServeErr::Write),
+    }
+}
+
+/// What replies to a message that is too long.
+fn long_refusal(alloc: Global, fixed16: bool) -> Result<Items<u8>, Memory>
+    ensures { IfOk result (λ bytes. bytes ≡ refusal_text too_long fixed16) }
+{
+    let refused = Refusal {
+        code: 413,
+        text: Text::new(alloc, "request too large")?,
+    };
+    refusal_bytes(alloc, &refused, fixed16)
+}
+
+/// What replies to what is refused.
+fn refusal_bytes(alloc: Global, refused: &Refusal, fixed16: bool) -> Result<Items<u8>, Memory>
+    requires least { 100 ≤ refused.now.code }
+    requires most { refused.now.code ≤ 999 }
+    ensures { IfOk result (λ bytes. bytes ≡ refusal_text refused.now fixed16) }
+{
+    // A word of a message is far shorter; no memory would hold the reply.
+    if refused.text.as_str().len() >= 99_999_999_999 {
+        return Err(AllocError);
+    }
+    refusal(alloc, refused, fixed16)
 }
 
 /// The update of an order.

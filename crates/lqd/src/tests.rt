@@ -115,7 +115,7 @@ fn answers_a_query_on_hosts(rt: HostRuntime) -> Result<(), Fail> {
         (b"GET nothing\nColumns: name\n\n", b""),
         (b"GET hosts\nColumns: nope\n\n", b""),
         (b"GET hosts x\n\n", b""),
-        (b"GET hosts\nStats: state = 0\n\n", b""),
+        (b"GET hosts\nStats: state = 0\n\n", b"2\n"),
         (
             b"GET hosts\nColumns: name\nFilter: name ~ ^web[12]$\nLimit: 1\n\n",
             b"web1\n",

@@ -1,34 +1,51 @@
-use Rattle.std.proofs.Common.{◌<◌, ◌≤◌, ◌++◌, length, map, subst, sym, ap, ◌∙◌}
-use Rattle.lq_tables.specs.Cells.{cell_of}
-use Rattle.lq_tables.specs.Rows.{rows_of}
-use Rattle.lq_query.specs.Answer.{chosen, reply_limit}
-use Rattle.lq_query.specs.Body.{first_rows_text}
-use Rattle.lq_query.proofs.RowLemmas.{reply_text}
+use Rattle.std.proofs.Common.{rules, ◌≡◌, ◌<◌, ◌++◌, [], List, length, Err, subst, ap, ◌∙◌}
+use Rattle.std.proofs.lemmas.List.{append-nil}
+use Rattle.std.proofs.lemmas.Result.{IfOk-weaker}
+use Rattle.lq_output.specs.Body.{body_limit, body_text}
+use Rattle.lq_output.specs.Writing.{Writing}
+use Rattle.lq_output.specs.declared.error.WriteErr.TheVariants.{TooLarge}
+use Rattle.lq_output.specs.declared.layout.Layout.{Layout}
+use Rattle.lq_schema.specs.Value.{Value}
+use Rattle.lq_query.specs.Answer.{first_lines, kept, layout_of, line_of_names, reply_lines, shown_lines, with_names}
+use Rattle.lq_query.proofs.LineLemmas.{names_first}
 use Rattle.lq_query.proofs.reply.body.Goals as goal
 
-pub returns-then-branch : goal.returns-then-branch
-returns-then-branch c =
+pub returns-in_err-push_head-clause-large : goal.returns-in_err-push_head-clause-large
+returns-in_err-push_head-clause-large c = λ large.
     let request = c.args.request.now in
     let s = c.args.live.now.state in
-    let columns = c.deref.ensures.value ∙ c.in_ok-columns.ensures ∙ c.as_slice.ensures in
-    let names = rw (c.in-Some.is, columns) at c.in_ok-body.ensures in
-    let count = c.len.ensures ∙ ap length c.in_ok-rows.ensures.all in
-    let rows = c.as_slice-2.ensures ∙ c.in_ok-rows.ensures.all in
-    let text = reply_text request s c.most_rows.result (λ is. c.most_rows.ensures.none is ∙ count) c.most_rows.ensures.some in
-    let added = rw (c.if-branch.true, columns, c.in_ok-ready.ensures, rows) at c.in_ok-push_rows.ensures in
-    let shown = first_rows_text request.columns c.most_rows.result (chosen request.filter (map (cell_of s) (rows_of s request.table))) in
-    let is = added.0 ∙ ap (λ front. front ++ shown) names.0 ∙ sym text in
-    (is, subst (λ body. length body ≤ reply_limit) is added.1)
+    let lines = first_lines request.limit (shown_lines request (kept request s)) in
+    let layout : c.in_ok-writer.writer.layout ≡ layout_of request = ap (λ (w : Writing). w.layout) c.in_ok-writer.ensures.ok in
+    let failed : c.push_head.result ≡ Err TooLarge = search (rules, large) in
+    subst (λ (layout : Layout). body_limit < length (body_text layout (reply_lines request s))) layout
+    (subst (λ (all : List (List Value)). body_limit < length (body_text c.in_ok-writer.writer.layout all)) (names_first request.head (line_of_names request) lines)
+    (c.push_head.ensures.large failed [] c.in_ok-writer.ensures.lines lines))
 
-pub returns : goal.returns
-returns c =
+pub returns-in_err-push_lines-clause-large : goal.returns-in_err-push_lines-clause-large
+returns-in_err-push_lines-clause-large c = λ large.
     let request = c.args.request.now in
     let s = c.args.live.now.state in
-    let columns = c.deref.ensures.value ∙ c.in_ok-columns.ensures ∙ c.as_slice.ensures in
-    let names = rw (c.in-Some.is, columns) at c.in_ok-body.ensures in
-    let count = c.len.ensures ∙ ap length c.in_ok-rows.ensures.all in
-    let rows = c.as_slice-2.ensures ∙ c.in_ok-rows.ensures.all in
-    let text = reply_text request s c.most_rows.result (λ is. c.most_rows.ensures.none is ∙ count) c.most_rows.ensures.some in
-    let long = rw (c.if-branch.false, columns, c.in_ok-ready.ensures, rows) at c.in_ok-push_rows.ensures in
-    let shown = first_rows_text request.columns c.most_rows.result (chosen request.filter (map (cell_of s) (rows_of s request.table))) in
-    subst (λ body. reply_limit < length body) (ap (λ front. front ++ shown) names.0 ∙ sym text) long
+    let head = with_names request.head (line_of_names request) [] in
+    let lines = first_lines request.limit (shown_lines request (kept request s)) in
+    let layout : c.push_head.new.writer.layout ≡ layout_of request = c.in_ok-push_head.ensures.lines.layout ∙ ap (λ (w : Writing). w.layout) c.in_ok-writer.ensures.ok in
+    let failed : c.push_lines.result ≡ Err TooLarge = search (rules, large) in
+    subst (λ (layout : Layout). body_limit < length (body_text layout (reply_lines request s))) layout
+    (subst (λ (all : List (List Value)). body_limit < length (body_text c.push_head.new.writer.layout all)) (ap (λ (those : List (List Value)). head ++ those) (append-nil lines) ∙ names_first request.head (line_of_names request) lines)
+    (c.push_lines.ensures.large failed head (c.in_ok-push_head.ensures.lines.written [] c.in_ok-writer.ensures.lines) []))
+
+pub finish-requires : goal.finish-requires
+finish-requires c = (c.in_ok-push_lines.ensures.lines.written _ (c.in_ok-push_head.ensures.lines.written [] c.in_ok-writer.ensures.lines)).has_cell
+
+pub returns-clause-body : goal.returns-clause-body
+returns-clause-body c =
+    let request = c.args.request.now in
+    let s = c.args.live.now.state in
+    let head = with_names request.head (line_of_names request) [] in
+    let lines = first_lines request.limit (shown_lines request (kept request s)) in
+    let layout : c.push_lines.new.writer.layout ≡ layout_of request
+    = c.in_ok-push_lines.ensures.lines.layout ∙ c.in_ok-push_head.ensures.lines.layout ∙ ap (λ (w : Writing). w.layout) c.in_ok-writer.ensures.ok in
+    IfOk-weaker c.finish.result _ _
+    (λ body is. is (head ++ lines) (c.in_ok-push_lines.ensures.lines.written head (c.in_ok-push_head.ensures.lines.written [] c.in_ok-writer.ensures.lines))
+    ∙ ap (λ (all : List (List Value)). body_text c.push_lines.new.writer.layout all) (names_first request.head (line_of_names request) lines)
+    ∙ ap (λ (layout : Layout). body_text layout (reply_lines request s)) layout)
+    c.finish.ensures.lines

@@ -16,7 +16,7 @@ pub returns-in-Err-command-clause-err : goal.returns-in-Err-command-clause-err
 returns-in-Err-command-clause-err g c = Appends-nil _
 
 pub returns-in-TooLong-clause-ok : goal.returns-in-TooLong-clause-ok
-returns-in-TooLong-clause-ok g c = too_long_served _ _ _ _ _ c.in-TooLong.ensures.order.1
+returns-in-TooLong-clause-ok g c = too_long_served _ _ _ _ _ _ c.in-TooLong.ensures.order.1 c.refuse.ensures.ok
 
 pub returns-in-Empty-clause-ok : goal.returns-in-Empty-clause-ok
 returns-in-Empty-clause-ok g c = none_found _ _ _ c.in-Empty.ensures.next.is c.in-Empty.ensures.order

@@ -1,0 +1,45 @@
+-- What is added to the body of a reply. Each of these holds of whichever lines stand before.
+use Rattle.std.specs.Prelude.{◌≡◌, ℕ, ◌<◌, Bool, List, [], ◌∷◌, ◌++◌, length, map, take, if◌then◌else◌}
+use Rattle.lq_output.specs.Body.{body_limit, body_text}
+use Rattle.lq_output.specs.Writing.{Writes, Writing}
+use Rattle.lq_schema.specs.declared.columns.Col.{Col}
+use Rattle.lq_schema.specs.Value.{Value}
+use Rattle.lq_tables.specs.declared.row.Row.{Row}
+use Rattle.lq_query.specs.Rows.{row_cells}
+
+-- these cells follow in the open line
+pub record AddsCells (old new : Writing) (cells : List Value) : Type 0 where
+  pub layout : new.layout ≡ old.layout
+  pub written : (before : List (List Value)) (front : List Value)
+      → Writes old before front → Writes new before (front ++ cells)
+
+-- with these cells the body is too large, whatever follows them
+abbrev pub AreTooLarge : Writing → List Value → Type 0
+AreTooLarge old cells =
+    (before : List (List Value)) (front : List Value) → Writes old before front
+    → (later : List Value) (more : List (List Value))
+    → body_limit < length (body_text old.layout (before ++ (front ++ (cells ++ later)) ∷ more))
+
+-- these lines follow
+pub record HasLines (old new : Writing) (lines : List (List Value)) : Type 0 where
+  pub layout : new.layout ≡ old.layout
+  pub written : (before : List (List Value)) → Writes old before [] → Writes new (before ++ lines) []
+
+-- with these lines the body is too large, whatever follows them
+abbrev pub IsTooLarge : Writing → List (List Value) → Type 0
+IsTooLarge old lines =
+    (before : List (List Value)) → Writes old before [] → (more : List (List Value))
+    → body_limit < length (body_text old.layout (before ++ (lines ++ more)))
+
+-- ---- rows
+
+-- the rows that are marked
+abbrev pub marked : List Bool → List Row → List Row
+marked [] rows = []
+marked (mark ∷ marks) [] = []
+marked (mark ∷ marks) (row ∷ rows) =
+    if mark then row ∷ marked marks rows else marked marks rows
+
+-- the lines of the first of some rows
+abbrev pub first_rows : List Col → ℕ → List (Col → Value) → List (List Value)
+first_rows columns most rows = map (row_cells columns) (take most rows)

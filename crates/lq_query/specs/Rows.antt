@@ -1,0 +1,22 @@
+-- The rows of a table, and those of them that a query chooses.
+use Rattle.std.specs.Prelude.{List, filter, map}
+use Rattle.lq_schema.specs.declared.columns.Col.{Col}
+use Rattle.lq_schema.specs.declared.columns.Table.{Table}
+use Rattle.lq_schema.specs.Value.{Value}
+use Rattle.lq_filter.specs.Trees.{holds, truth_on}
+use Rattle.lq_filter.specs.declared.header.Header.{Header}
+use Rattle.lq_live.specs.State.{State}
+use Rattle.lq_tables.specs.Rows.{rows_of}
+use Rattle.lq_tables.specs.Cells.{cell_of}
+
+-- the rows of a table in order, each as the values that it has in the columns
+abbrev pub table_rows : State → Table → List (Col → Value)
+table_rows s table = map (cell_of s) (rows_of s table)
+
+-- the rows that the headers of a filter choose
+abbrev pub chosen : List Header → List (Col → Value) → List (Col → Value)
+chosen headers rows = filter (λ row. holds (truth_on row) headers) rows
+
+-- the cells of a row
+abbrev pub row_cells : List Col → (Col → Value) → List Value
+row_cells columns row = map row columns

@@ -1,0 +1,139 @@
+ghost use Rattle.std.specs.Prelude.{◌≡◌, IfOk, map};
+ghost use Rattle.lq_filter.specs.Trees.{holds, truth_on};
+ghost use Rattle.lq_filter.specs.declared.header.Header.{Header};
+ghost use Rattle.lq_schema.specs.Value.{Number};
+ghost use Rattle.lq_stats.specs.declared.cell.StatCell.TheVariants as cell;
+ghost use Rattle.lq_tables.specs.Cells.{cell_of};
+ghost use Rattle.lq_query.specs.Counting.{entry_of};
+ghost use Rattle.lq_query.specs.Groups.{number_cell, stat_cell};
+
+use crate::selection::marks_of;
+use lq_filter::ReadyFilter;
+use lq_live::Live;
+use lq_records::Memory;
+use lq_request::StatEntry;
+use lq_schema::{Col, Val};
+use lq_stats::{StatCell, StatKind};
+use lq_tables::{Row, RowCells, row_number};
+use std::alloc::Global;
+
+/// An entry of a query's statistics, made ready for many rows.
+#[derive(Drop)]
+pub enum ReadyEntry<'f> {
+    /// How many rows a filter chooses.
+    Count(ReadyFilter<'f>),
+    /// What a column's numbers give together.
+    Over(StatKind, Col),
+}
+
+impl ReadyEntry<'_> {
+    /// What the statistic takes of each of some rows. The only error is out of memory.
+    pub fn cells(
+        &mut self,
+        alloc: Global,
+        live: &Live,
+        rows: &[Row],
+    ) -> Result<Vec<StatCell>, Memory>
+        ensures cells { IfOk result (λ cells. cells.items
+            ≡ map (λ row. stat_cell (cell_of live.now.state row) (entry_of self.old)) rows.now) }
+        ensures same { entry_of self.new ≡ entry_of self.old }
+    {
+        match self {
+            ReadyEntry::Count(filter) => counted_cells(alloc, filter, live, rows),
+            ReadyEntry::Over(_, column) => number_cells(alloc, live, rows, *column),
+        }
+    }
+}
+
+/// The entries of a query made ready.
+pub fn ready_entries(alloc: Global, stats: &[StatEntry]) -> Result<Vec<ReadyEntry<'_>>, Memory>
+    ensures { IfOk result (λ entries. map entry_of entries.items ≡ stats.now) }
+{
+    let mut entries = Vec::with_capacity(alloc, stats.len())?;
+    for entry in stats {
+        entries.push(ready_entry(alloc, entry)?)?;
+    }
+    Ok(entries)
+}
+
+fn ready_entry(alloc: Global, entry: &StatEntry) -> Result<ReadyEntry<'_>, Memory>
+    ensures { IfOk result (λ ready. entry_of ready ≡ entry.now) }
+{
+    match entry {
+        StatEntry::Count(filter) => Ok(ReadyEntry::Count(filter.ready(alloc)?)),
+        StatEntry::Over(kind, column) => Ok(ReadyEntry::Over(*kind, *column)),
+    }
+}
+
+/// Whether the filter chooses a row, of each row.
+fn counted_cells(
+    alloc: Global,
+    filter: &mut ReadyFilter<'_>,
+    live: &Live,
+    rows: &[Row],
+) -> Result<Vec<StatCell>, Memory>
+    ensures cells { IfOk result (λ cells. cells.items
+        ≡ map (λ row. cell.Counted (holds (truth_on (cell_of live.now.state row)) filter.old))
+        rows.now) }
+    ensures same { filter.new ≡ filter.old }
+{
+    let marks = marks_of(alloc, filter, live, rows)?;
+    counted(alloc, &marks)
+}
+
+fn counted(alloc: Global, marks: &[bool]) -> Result<Vec<StatCell>, Memory>
+    ensures { IfOk result (λ cells. cells.items ≡ map cell.Counted marks.now) }
+{
+    let mut cells = Vec::with_capacity(alloc, marks.len())?;
+    for mark in marks {
+        cells.push(StatCell::Counted(*mark))?;
+    }
+    Ok(cells)
+}
+
+/// The number that each row has in a column.
+fn number_cells(
+    alloc: Global,
+    live: &Live,
+    rows: &[Row],
+    column: Col,
+) -> Result<Vec<StatCell>, Memory>
+    ensures { IfOk result (λ cells. cells.items
+        ≡ map (λ row. number_cell (cell_of live.now.state row column)) rows.now) }
+{
+    let mut cells = Vec::with_capacity(alloc, rows.len())?;
+    for row in rows {
+        cells.push(cell_number(alloc, live, *row, column)?)?;
+    }
+    Ok(cells)
+}
+
+fn cell_number(alloc: Global, live: &Live, row: Row, column: Col) -> Result<StatCell, Memory>
+    ensures { IfOk result (λ cell. cell ≡ number_cell (cell_of live.now.state row column)) }
+{
+    match row_number(live, row, column) {
+        Some(number) => Ok(sized(number)),
+        None => value_number(alloc, live, row, column),
+    }
+}
+
+/// The same for a number that isn't found without a value, as that of a counter.
+#[inline(never)]
+fn value_number(alloc: Global, live: &Live, row: Row, column: Col) -> Result<StatCell, Memory>
+    ensures { IfOk result (λ cell. cell ≡ number_cell (cell_of live.now.state row column)) }
+{
+    match RowCells::of(live, row).value(alloc, column)? {
+        Val::Int(number) => Ok(sized(number)),
+        _ => Ok(StatCell::Number(0)),
+    }
+}
+
+fn sized(number: i128) -> StatCell
+    ensures { result ≡ number_cell (Number number) }
+{
+    if number.unsigned_abs() <= 18_446_744_073_709_551_616 {
+        StatCell::Number(number)
+    } else {
+        StatCell::Number(0)
+    }
+}
