@@ -1,6 +1,6 @@
 use Rattle.std.proofs.Common.{◌∙◌, sym, rules}
 use Rattle.std.proofs.KnownBytes.{Appends-nil}
-use Rattle.lqd.proofs.MessageLemmas.{last_query_served, query_broken, too_long_served, none_found}
+use Rattle.lqd.proofs.MessageLemmas.{last_query_served, query_broken, too_long_served, too_long_broken, none_found}
 use Rattle.lqd.proofs.session.Session.next.Goals as goal
 
 pub returns-in-Ok-false-clause-ok : goal.returns-in-Ok-false-clause-ok
@@ -15,8 +15,11 @@ returns-in-Ok-clause-ok g c = search (rules, Appends-nil)
 pub returns-in-Err-command-clause-err : goal.returns-in-Err-command-clause-err
 returns-in-Err-command-clause-err g c = Appends-nil _
 
-pub returns-in-TooLong-clause-ok : goal.returns-in-TooLong-clause-ok
-returns-in-TooLong-clause-ok g c = too_long_served _ _ _ _ _ _ c.in-TooLong.ensures.order.1 c.refuse.ensures.ok
+pub returns-in-Ok-refuse-clause-ok : goal.returns-in-Ok-refuse-clause-ok
+returns-in-Ok-refuse-clause-ok g c = too_long_served _ _ _ _ _ _ c.in-TooLong.ensures.order.1 c.in-Ok-refuse.ensures.ok
+
+pub returns-in-Err-refuse-clause-err : goal.returns-in-Err-refuse-clause-err
+returns-in-Err-refuse-clause-err g c = too_long_broken _ _ _ _ _ _ _ c.in-TooLong.ensures.order.1 c.in-Err-refuse.ensures.broken
 
 pub returns-in-Empty-clause-ok : goal.returns-in-Empty-clause-ok
 returns-in-Empty-clause-ok g c = none_found _ _ _ c.in-Empty.ensures.next.is c.in-Empty.ensures.order
