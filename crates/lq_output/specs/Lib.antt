@@ -3,4 +3,5 @@ pub mod Escapes
 pub mod CellValue
 pub mod Body
 pub mod Writing
+pub mod Spots
 pub mod Header

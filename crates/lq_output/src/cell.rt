@@ -1,10 +1,11 @@
-ghost use Rattle.std.specs.Prelude.{◌≡◌, ◌++◌, OnOk};
+ghost use Rattle.std.specs.Prelude.{◌≡◌, ◌++◌, OnErr, OnOk, true};
 ghost use Rattle.lq_schema.specs.Value.{Words, shown};
 ghost use Rattle.lq_output.specs.Cells.{cell_text};
 ghost use Rattle.lq_output.specs.CellValue.{value_of};
+ghost use Rattle.lq_output.specs.Escapes.{is_as_it_is};
 
-use crate::fields::{push_field, push_field_of};
-use crate::json_text::{push_json, push_string};
+use crate::fields::{is_quoted, push_field, push_field_of};
+use crate::json_text::{has_no_escape, push_in_quotes, push_json, push_string};
 use crate::layout::Layout;
 use crate::number::push_number;
 use crate::plain::push_plain;
@@ -54,5 +55,32 @@ fn push_value(out: &mut Vec<u8>, layout: Layout, value: &Val<'_>) -> Result<(), 
         Format::Csv => push_plain(out, separators.list, separators.pair, value),
         Format::Quoted => push_field_of(out, value),
         Format::Json => push_json(out, value),
+    }
+}
+
+/// Whether a text is written as it is, but for the quotes around it in json.
+#[inline]
+pub fn is_as_it_is(format: Format, text: &str) -> bool
+    ensures { result ≡ is_as_it_is format text.now }
+{
+    match format {
+        Format::Csv => true,
+        Format::Quoted => !is_quoted(text.as_bytes()),
+        Format::Json => has_no_escape(text),
+    }
+}
+
+/// Adds a text that is written as it is. Where memory runs out, nothing is added.
+#[inline]
+#[tactic(auto, using(crate::proofs::EscapeLemmas::quoted_plain))]
+pub fn push_as_it_is(out: &mut Vec<u8>, layout: Layout, text: &str) -> Result<(), Memory>
+    requires { is_as_it_is layout.format text.now ≡ true }
+    ensures ok { OnOk result
+        (out.new.items ≡ out.old.items ++ cell_text layout (Words text.now)) }
+    ensures err { OnErr result (out.new.items ≡ out.old.items) }
+{
+    match layout.format {
+        Format::Csv | Format::Quoted => out.extend_from_slice(text.as_bytes()),
+        Format::Json => push_in_quotes(out, text),
     }
 }

@@ -45,7 +45,7 @@ pub fn push_field(out: &mut Vec<u8>, text: &[u8]) -> Result<(), Memory>
 }
 
 /// Whether RFC 4180 quotes a field with this text.
-fn is_quoted(text: &[u8]) -> bool
+pub fn is_quoted(text: &[u8]) -> bool
     ensures { result ≡ list_any is_special text.now }
 {
     text.iter().any(|byte| *byte == b',' || *byte == b'"' || *byte == b'\r' || *byte == b'\n')

@@ -1,4 +1,4 @@
-ghost use Rattle.std.specs.Prelude.{◌≡◌, [], ◌∷◌, ◌++◌, OnOk, map};
+ghost use Rattle.std.specs.Prelude.{◌≡◌, [], ◌∷◌, ◌++◌, OnErr, OnOk, map};
 ghost use Rattle.std.specs.Fmt.{decimal};
 ghost use Rattle.std.specs.List.{list_all};
 ghost use Rattle.json.specs.Print.{quoted};
@@ -11,6 +11,7 @@ use crate::plain::push_numbers;
 use lq_records::{Memory, Text};
 use lq_schema::Val;
 use serde_json::Value;
+use std::alloc::AllocError;
 
 /// Adds the text of a value in JSON. The only error is out of memory.
 pub fn push_json(out: &mut Vec<u8>, value: &Val<'_>) -> Result<(), Memory>
@@ -41,7 +42,7 @@ pub fn push_string(out: &mut Vec<u8>, text: &str) -> Result<(), Memory>
 
 /// Whether a text stands in a JSON string as it is. No byte ends the loop, so that it takes many
 /// bytes at once.
-fn has_no_escape(text: &str) -> bool
+pub fn has_no_escape(text: &str) -> bool
     ensures { result ≡ list_all is_plain text.now }
 {
     let mut plain = true;
@@ -59,12 +60,23 @@ fn is_plain(byte: u8) -> bool
     byte >= b' ' && byte != b'"' && byte != b'\\'
 }
 
-fn push_in_quotes(out: &mut Vec<u8>, text: &str) -> Result<(), Memory>
-    ensures { OnOk result (out.new.items ≡ out.old.items ++ 34 ∷ (text.now ++ 34 ∷ [])) }
+/// Adds a text between quotes. Where memory runs out, nothing is added.
+#[inline]
+pub fn push_in_quotes(out: &mut Vec<u8>, text: &str) -> Result<(), Memory>
+    ensures ok { OnOk result (out.new.items ≡ out.old.items ++ 34 ∷ (text.now ++ 34 ∷ [])) }
+    ensures err { OnErr result (out.new.items ≡ out.old.items) }
 {
+    let start = out.len();
     out.push(b'"')?;
-    out.extend_from_slice(text.as_bytes())?;
-    Ok(out.push(b'"')?)
+    if out.extend_from_slice(text.as_bytes()).is_err() {
+        out.truncate(start);
+        return Err(AllocError);
+    }
+    if out.push(b'"').is_err() {
+        out.truncate(start);
+        return Err(AllocError);
+    }
+    Ok(())
 }
 
 #[inline(never)]

@@ -1,8 +1,8 @@
 ghost use Rattle.std.specs.Prelude.{◌≡◌, ◌+◌, ◌++◌, OnOk, OnErr, length};
 ghost use Rattle.lq_output.specs.Body.{marks_of};
-ghost use Rattle.lq_output.specs.Writing.{gap_of_cell};
+ghost use Rattle.lq_output.specs.Spots.{gap_at};
 
-use crate::layout::Layout;
+use crate::layout::{Layout, Spot};
 use lq_records::{Format, Memory};
 
 /// Adds what a body begins with. The only error is out of memory.
@@ -15,23 +15,19 @@ pub fn push_start(out: &mut Vec<u8>, layout: Layout) -> Result<(), Memory>
     }
 }
 
-/// Adds what stands before the next cell: before one in a line, or before a new line. The only
-/// error is out of memory.
-pub fn push_gap(
-    out: &mut Vec<u8>,
-    layout: Layout,
-    has_line: bool,
-    has_cell: bool,
-) -> Result<(), Memory>
-    ensures { OnOk result
-        (out.new.items ≡ out.old.items ++ gap_of_cell (marks_of layout) has_line has_cell) }
+/// Adds what stands before the next cell: before one in a line, or before a new line. Where memory
+/// runs out, nothing is added.
+#[inline]
+pub fn push_gap(out: &mut Vec<u8>, spot: Spot) -> Result<(), Memory>
+    ensures ok { OnOk result (out.new.items ≡ out.old.items ++ gap_at spot) }
+    ensures err { OnErr result (out.new.items ≡ out.old.items) }
 {
-    match layout.format {
-        Format::Csv if has_cell => Ok(out.push(layout.separators.column)?),
-        Format::Quoted if has_cell => Ok(out.push(b',')?),
+    match spot.layout.format {
+        Format::Csv if spot.has_cell => Ok(out.push(spot.layout.separators.column)?),
+        Format::Quoted if spot.has_cell => Ok(out.push(b',')?),
         Format::Csv | Format::Quoted => Ok(()),
-        Format::Json if has_cell => Ok(out.push(b',')?),
-        Format::Json if has_line => out.extend_from_slice(b",\n["),
+        Format::Json if spot.has_cell => Ok(out.push(b',')?),
+        Format::Json if spot.has_line => out.extend_from_slice(b",\n["),
         Format::Json => Ok(out.push(b'[')?),
     }
 }
@@ -59,6 +55,7 @@ pub fn push_finish(out: &mut Vec<u8>, layout: Layout) -> Result<(), Memory>
 }
 
 /// How many bytes end a body whose line is open.
+#[inline]
 pub fn ending_len(layout: Layout) -> usize
     ensures { result ≡ length (marks_of layout).line_end + length (marks_of layout).finish }
 {

@@ -1,14 +1,16 @@
-ghost use Rattle.std.specs.Prelude.{◌≡◌, ◌++◌, OnOk};
+ghost use Rattle.std.specs.Prelude.{◌≡◌, ◌++◌, OnErr, OnOk};
 ghost use Rattle.std.specs.Fmt.{decimal, signed_decimal};
 ghost use Rattle.lq_records.specs.Micros.{micro_text};
 
 use itoa::Buffer;
 use lq_records::{Memory, Micro};
 
-/// Adds the digits of a number, after a `-` where it is below 0. It takes no memory but the text's.
+/// Adds the digits of a number, after a `-` where it is below 0. It takes no memory but the text's;
+/// where that runs out, nothing is added.
 #[inline]
 pub fn push_number(out: &mut Vec<u8>, number: i128) -> Result<(), Memory>
-    ensures { OnOk result (out.new.items ≡ out.old.items ++ signed_decimal number) }
+    ensures ok { OnOk result (out.new.items ≡ out.old.items ++ signed_decimal number) }
+    ensures err { OnErr result (out.new.items ≡ out.old.items) }
 {
     match u64::try_from(number) {
         Ok(number) => push_unsigned(out, number),
@@ -17,10 +19,11 @@ pub fn push_number(out: &mut Vec<u8>, number: i128) -> Result<(), Memory>
 }
 
 /// Adds the digits of a number that isn't below 0. Most numbers of a state have one digit alone,
-/// which takes no buffer.
+/// which takes no buffer. Where memory runs out, nothing is added.
 #[inline]
 pub fn push_unsigned(out: &mut Vec<u8>, number: u64) -> Result<(), Memory>
-    ensures { OnOk result (out.new.items ≡ out.old.items ++ decimal number) }
+    ensures ok { OnOk result (out.new.items ≡ out.old.items ++ decimal number) }
+    ensures err { OnErr result (out.new.items ≡ out.old.items) }
 {
     if number < 10 {
         Ok(out.push(b'0' + number as u8)?)
@@ -31,7 +34,8 @@ pub fn push_unsigned(out: &mut Vec<u8>, number: u64) -> Result<(), Memory>
 
 #[inline(never)]
 fn push_digits(out: &mut Vec<u8>, number: u64) -> Result<(), Memory>
-    ensures { OnOk result (out.new.items ≡ out.old.items ++ decimal number) }
+    ensures ok { OnOk result (out.new.items ≡ out.old.items ++ decimal number) }
+    ensures err { OnErr result (out.new.items ≡ out.old.items) }
 {
     let mut digits = Buffer::new();
     out.extend_from_slice(digits.format(number).as_bytes())
@@ -39,7 +43,8 @@ fn push_digits(out: &mut Vec<u8>, number: u64) -> Result<(), Memory>
 
 #[inline(never)]
 fn push_wide(out: &mut Vec<u8>, number: i128) -> Result<(), Memory>
-    ensures { OnOk result (out.new.items ≡ out.old.items ++ signed_decimal number) }
+    ensures ok { OnOk result (out.new.items ≡ out.old.items ++ signed_decimal number) }
+    ensures err { OnErr result (out.new.items ≡ out.old.items) }
 {
     let mut digits = Buffer::new();
     out.extend_from_slice(digits.format(number).as_bytes())

@@ -1,13 +1,16 @@
-ghost use Rattle.std.specs.Prelude.{◌≡◌, ◌+◌, ◌<◌, ◌≤◌, [], ◌++◌, length, true, false, IfOk, OnOk, OnErr, IsOkUnless};
+ghost use Rattle.std.specs.Prelude.{◌≡◌, ◌+◌, ◌<◌, ◌≤◌, [], ◌++◌, length, take, true, false, IfErr, IfOk, OnOk, OnErr, IsOkUnless};
 ghost use Rattle.lq_schema.specs.Value.{Number, Words, shown};
-ghost use Rattle.lq_output.specs.Body.{body_limit};
+ghost use Rattle.lq_output.specs.Body.{body_limit, marks_of};
 ghost use Rattle.lq_output.specs.CellValue.{value_of};
+ghost use Rattle.lq_output.specs.Escapes.{is_as_it_is};
+ghost use Rattle.lq_output.specs.Spots.{ended_length, text_at};
 ghost use Rattle.lq_output.specs.Writing.{AddsCell, EndsLine, IsTextOfLines, IsTooLargeWith, IsWithinLimit, Writes, closed, nothing_written, with_cell, with_line};
 
-use crate::cell::{Cell, push_cell};
+use crate::cell::{Cell, is_as_it_is, push_as_it_is, push_cell};
 use crate::error::WriteErr;
-use crate::layout::Layout;
+use crate::layout::{Layout, Spot};
 use crate::marks::{ending_len, push_finish, push_gap, push_line_end, push_start};
+use crate::number::push_number;
 use lq_records::{Format, Items, Memory, Separators};
 use lq_schema::Val;
 use std::alloc::Global;
@@ -29,7 +32,7 @@ pub struct Writer {
     has_line: bool,
     /// Whether the open line has a cell.
     has_cell: bool,
-    /// Where a cell is written first, so that the body stays as it is until the cell fits.
+    /// Where a cell is written first that doesn't go straight to the body.
     cell: Vec<u8>,
 }
 
@@ -124,7 +127,8 @@ impl Writer {
         self.append(cell)
     }
 
-    /// Adds a cell to the open line. It is written apart first, and then added at once.
+    /// Adds a cell to the open line. A number, and a text that is written as it is, go straight to
+    /// the body; any other cell is written apart first.
     fn append(&mut self, cell: Cell<'_>) -> Result<(), WriteErr>
         ensures ok { OnOk result (self.new ≡ with_cell self.old (value_of cell.entry)) }
         ensures fits { OnOk result (length (closed self.new) ≤ body_limit) }
@@ -132,12 +136,32 @@ impl Writer {
             → body_limit < length (closed (with_cell self.old (value_of cell.entry))) }
         ensures err { OnErr result (self.new ≡ self.old) }
     {
-        self.cell.clear();
-        push_gap(&mut self.cell, self.layout, self.has_line, self.has_cell)?;
-        push_cell(&mut self.cell, self.layout, cell)?;
-        push_fitting(&mut self.body, &self.cell, ending_len(self.layout))?;
+        let spot = self.spot();
+        match cell {
+            Cell::Number(number) => push_number_at(&mut self.body, spot, number)?,
+            Cell::Text(text) if is_as_it_is(spot.layout.format, text) => {
+                push_text_at(&mut self.body, spot, text)?;
+            }
+            Cell::Text(_) | Cell::Value(_) => {
+                push_apart(&mut self.body, &mut self.cell, spot, cell)?;
+            }
+        }
         self.has_cell = true;
         Ok(())
+    }
+
+    /// Where the next cell comes.
+    #[inline]
+    fn spot(&self) -> Spot
+        ensures layout { result.layout ≡ self.now.layout }
+        ensures has_line { result.has_line ≡ self.now.has_line }
+        ensures has_cell { result.has_cell ≡ self.now.has_cell }
+    {
+        Spot {
+            layout: self.layout,
+            has_line: self.has_line,
+            has_cell: self.has_cell,
+        }
     }
 
     /// Ends the open line, which has a cell. The only error is `Memory`: the bytes that end it were
@@ -172,20 +196,88 @@ impl Writer {
     }
 }
 
-/// Adds a cell to a body that has room for it and for the bytes that end the body behind it. After
-/// an error the body is as it was.
-fn push_fitting(body: &mut Vec<u8>, cell: &[u8], ending: usize) -> Result<(), WriteErr>
-    requires body { length body.old.items ≤ body_limit }
-    requires ending { ending ≤ 3 }
-    ensures ok { OnOk result (body.new.items ≡ body.old.items ++ cell.now) }
-    ensures fits { OnOk result (length body.old.items + length cell.now + ending ≤ body_limit) }
+/// Adds a number to a body that has room for it and for the bytes that end the body behind it.
+/// After an error the body is as it was.
+fn push_number_at(body: &mut Vec<u8>, spot: Spot, number: i128) -> Result<(), WriteErr>
+    requires { length body.old.items ≤ body_limit }
+    ensures ok { OnOk result (body.new.items ≡ body.old.items ++ text_at spot (Number number)) }
+    ensures fits { OnOk result
+        (ended_length spot body.old.items (Number number) ≤ body_limit) }
     ensures large { result ≡ Err WriteErr.TooLarge
-        → body_limit < length body.old.items + length cell.now + ending }
+        → body_limit < ended_length spot body.old.items (Number number) }
     ensures err { OnErr result (body.new.items ≡ body.old.items) }
 {
-    if body.len() + cell.len() + ending > BODY_LIMIT {
+    let start = body.len();
+    push_gap(body, spot)?;
+    if push_number(body, number).is_err() {
+        body.truncate(start);
+        return Err(WriteErr::Memory);
+    }
+    keep_fitting(body, start, spot.layout)
+}
+
+/// The same for a text that is written as it is.
+fn push_text_at(body: &mut Vec<u8>, spot: Spot, text: &str) -> Result<(), WriteErr>
+    requires within { length body.old.items ≤ body_limit }
+    requires as_it_is { is_as_it_is spot.layout.format text.now ≡ true }
+    ensures ok { OnOk result (body.new.items ≡ body.old.items ++ text_at spot (Words text.now)) }
+    ensures fits { OnOk result
+        (ended_length spot body.old.items (Words text.now) ≤ body_limit) }
+    ensures large { result ≡ Err WriteErr.TooLarge
+        → body_limit < ended_length spot body.old.items (Words text.now) }
+    ensures err { OnErr result (body.new.items ≡ body.old.items) }
+{
+    let start = body.len();
+    push_gap(body, spot)?;
+    if push_as_it_is(body, spot.layout, text).is_err() {
+        body.truncate(start);
+        return Err(WriteErr::Memory);
+    }
+    keep_fitting(body, start, spot.layout)
+}
+
+/// The same for any cell, which is written apart first: where memory runs out, a part of it may
+/// stand there, and none in the body.
+#[inline(never)]
+fn push_apart(
+    body: &mut Vec<u8>,
+    apart: &mut Vec<u8>,
+    spot: Spot,
+    cell: Cell<'_>,
+) -> Result<(), WriteErr>
+    requires { length body.old.items ≤ body_limit }
+    ensures ok { OnOk result
+        (body.new.items ≡ body.old.items ++ text_at spot (value_of cell.entry)) }
+    ensures fits { OnOk result
+        (ended_length spot body.old.items (value_of cell.entry) ≤ body_limit) }
+    ensures large { result ≡ Err WriteErr.TooLarge
+        → body_limit < ended_length spot body.old.items (value_of cell.entry) }
+    ensures err { OnErr result (body.new.items ≡ body.old.items) }
+{
+    apart.clear();
+    push_gap(apart, spot)?;
+    push_cell(apart, spot.layout, cell)?;
+    let start = body.len();
+    body.extend_from_slice(apart)?;
+    keep_fitting(body, start, spot.layout)
+}
+
+/// Takes what was added to a body behind a place away again, where the body has no room for it and
+/// for the bytes that end the body behind it.
+#[inline]
+fn keep_fitting(body: &mut Vec<u8>, start: usize, layout: Layout) -> Result<(), WriteErr>
+    requires { start ≤ length body.old.items }
+    ensures ok { OnOk result (body.new.items ≡ body.old.items) }
+    ensures fits { OnOk result (length body.old.items
+        + (length (marks_of layout).line_end + length (marks_of layout).finish) ≤ body_limit) }
+    ensures large { IfErr result (λ error. error ≡ WriteErr.TooLarge) }
+    ensures full { OnErr result (body_limit < length body.old.items
+        + (length (marks_of layout).line_end + length (marks_of layout).finish)) }
+    ensures err { OnErr result (body.new.items ≡ take start body.old.items) }
+{
+    if body.len() > BODY_LIMIT - ending_len(layout) {
+        body.truncate(start);
         return Err(WriteErr::TooLarge);
     }
-    body.extend_from_slice(cell)?;
     Ok(())
 }
