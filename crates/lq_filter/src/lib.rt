@@ -17,6 +17,7 @@ mod ready_check;
 mod ready_test;
 mod scan;
 mod stack;
+mod text_check;
 
 pub use cells::Cells;
 pub use check::{Check, Comparison, Property};
@@ -32,3 +33,4 @@ pub use ready_check::{ReadyCheck, ReadyProperty};
 pub use ready_test::ReadyTest;
 pub use scan::Scan;
 pub use stack::{Stack, StackErr};
+pub use text_check::TextCheck;

@@ -2,9 +2,10 @@ ghost use Rattle.std.specs.Prelude.{◌≡◌, ℕ, IfOk, IfSome, List, map, tru
 ghost use Rattle.std.specs.Fmt.{decimal};
 ghost use Rattle.std.specs.List.{list_any};
 ghost use Rattle.std.specs.Option.{IsSome};
+ghost use Rattle.std.specs.declared.cmp.Ordering.TheVariants.{Equal};
 ghost use Rattle.lq_schema.specs.Value.{Number, Words, shown};
 ghost use Rattle.lq_filter.specs.Patterns.{is_found};
-ghost use Rattle.lq_filter.specs.Ready.{check_of_element, check_of_number, property_of};
+ghost use Rattle.lq_filter.specs.Ready.{check_of_element, check_of_number, check_of_text, property_of};
 ghost use Rattle.lq_filter.specs.Tests.{has_property, is_met, is_of_number, list_has, negated_if, number_has, pair_text, text_has};
 ghost use Rattle.lq_filter.specs.declared.check.Comparison.TheVariants as by;
 ghost use Rattle.lq_filter.specs.declared.check.Property.TheVariants.{Compares};
@@ -13,9 +14,11 @@ use crate::check::{Check, Comparison, Property};
 use crate::element_check::ElementCheck;
 use crate::number_check::NumberCheck;
 use crate::pattern::ReadyPattern;
+use crate::text_check::TextCheck;
 use lq_records::{Memory, Text};
 use lq_schema::Val;
 use std::alloc::Global;
+use std::cmp::Ordering;
 use std::marker::Model;
 
 /// A check with the matcher that it searches with, which serves for any number of values. Contracts
@@ -100,6 +103,21 @@ impl<'c> ReadyCheck<'c> {
                 negated: self.negated,
                 ordering: *ordering,
                 operand: *operand,
+            }),
+            _ => None,
+        }
+    }
+
+    /// The text that the check asks for, None for any other check, as one of the order of texts.
+    pub fn of_text(&self) -> Option<TextCheck<'c>>
+        ensures asked { IfSome result (λ check. self.now ≡ check_of_text check) }
+        ensures given { (text : List ℕ) → self.now.property ≡ Compares (by.Text Equal text)
+            → IsSome result }
+    {
+        match &self.property {
+            ReadyProperty::Compares(Comparison::Text(Ordering::Equal, text)) => Some(TextCheck {
+                negated: self.negated,
+                operand: text.as_str(),
             }),
             _ => None,
         }

@@ -1,5 +1,5 @@
 ghost use Rattle.std.specs.Prelude.{◌≡◌, ◌≤◌, All, IfOk, OnOk, length};
-ghost use Rattle.lq_filter.specs.Marks.{AreKept, AreKeptBetween};
+ghost use Rattle.lq_filter.specs.Marks.{AreKept, AreKeptBefore, AreKeptBetween};
 ghost use Rattle.lq_filter.specs.Ready.{check_of_element, check_of_number};
 ghost use Rattle.lq_filter.specs.ReadyHeaders.{test_of};
 ghost use Rattle.lq_filter.specs.Trees.{truth_on};
@@ -117,7 +117,8 @@ impl ReadyTest<'_> {
         Ok(())
     }
 
-    /// The same for a column of texts.
+    /// The same for a column of texts. The rows are tested one by one where the cells give no answer
+    /// for many at once.
     fn keep_met_by_text<S: Scan>(
         &mut self,
         block: &Block<'_, S>,
@@ -131,7 +132,42 @@ impl ReadyTest<'_> {
             block.now.rows.now marks.old marks.new) }
         ensures same { test_of self.new ≡ test_of self.old }
     {
-        for place in 0..block.rows.len() {
+        let done = self.keep_texts(block, marks);
+        self.keep_rest_by_text(block, done, marks)
+    }
+
+    /// Keeps the marks of the first rows that meet the test, where it asks for a text and the cells
+    /// give an answer for many rows at once, and says how many rows were looked at.
+    fn keep_texts<S: Scan>(&self, block: &Block<'_, S>, marks: &mut [bool]) -> usize
+        requires { length marks.old ≡ length block.now.rows.now }
+        ensures within { result ≤ length block.now.rows.now }
+        ensures kept { AreKeptBefore
+            (λ row. truth_on (S.cell block.now.scan.now row) (test_of self.now))
+            block.now.rows.now marks.old marks.new result }
+    {
+        match self.check.of_text() {
+            Some(check) => block.scan.keep_texts(block.rows, self.column, check, marks),
+            None => 0,
+        }
+    }
+
+    /// The same for the rows from a place on.
+    fn keep_rest_by_text<S: Scan>(
+        &mut self,
+        block: &Block<'_, S>,
+        start: usize,
+        marks: &mut [bool],
+    ) -> Result<(), Memory>
+        requires columns { All (λ row. S.has block.now.scan.now row self.old.column)
+            block.now.rows.now }
+        requires marked { length marks.old ≡ length block.now.rows.now }
+        requires within { start ≤ length block.now.rows.now }
+        ensures kept { OnOk result (AreKeptBetween
+            (λ row. truth_on (S.cell block.now.scan.now row) (test_of self.old))
+            block.now.rows.now marks.old marks.new start (length block.now.rows.now)) }
+        ensures same { test_of self.new ≡ test_of self.old }
+    {
+        for place in start..block.rows.len() {
             if marks[place] {
                 marks[place] = self.is_met_by_text(block.alloc, &block.at(place))?;
             }

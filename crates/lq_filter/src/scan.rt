@@ -1,7 +1,7 @@
 ghost use Rattle.std.specs.Prelude.{◌≡◌, ◌≤◌, ℕ, IfOk, IfSome, List, bytes_eq, length};
 ghost use Rattle.std.specs.List.{list_any};
 ghost use Rattle.lq_filter.specs.Marks.{AreKeptBefore};
-ghost use Rattle.lq_filter.specs.Ready.{check_of_element, check_of_number};
+ghost use Rattle.lq_filter.specs.Ready.{check_of_element, check_of_number, check_of_text};
 ghost use Rattle.lq_filter.specs.Tests.{is_met};
 ghost use Rattle.lq_schema.specs.Value.{Number, Texts, Value, Words, shown};
 ghost use Rattle.lq_schema.specs.declared.columns.Col.{Col};
@@ -9,6 +9,7 @@ ghost use Rattle.lq_schema.specs.declared.columns.Col.{Col};
 use crate::cells::Cells;
 use crate::element_check::ElementCheck;
 use crate::number_check::NumberCheck;
+use crate::text_check::TextCheck;
 use lq_records::Memory;
 use lq_schema::{Col, Val};
 use std::alloc::Global;
@@ -61,6 +62,24 @@ pub trait Scan {
         requires { length marks.old ≡ length rows.now }
         ensures within { result ≤ length rows.now }
         ensures kept { AreKeptBefore (λ row. is_met (check_of_number check) (cell self.now row c))
+            rows.now marks.old marks.new result }
+    {
+        0
+    }
+
+    /// The same for the marks of rows whose texts in a column are the one that a check asks for, or
+    /// another one where the check is negated.
+    fn keep_texts(
+        &self,
+        rows: &[Self::Row],
+        c: Col,
+        check: TextCheck<'_>,
+        marks: &mut [bool],
+    ) -> usize
+        requires { length marks.old ≡ length rows.now }
+        ensures within { result ≤ length rows.now }
+        ensures kept { AreKeptBefore
+            (λ row. is_met (check_of_text check.entry) (cell self.now row c))
             rows.now marks.old marks.new result }
     {
         0
