@@ -17,7 +17,7 @@ use std::alloc::Global;
 
 /// The number of a column that a status holds.
 #[inline]
-pub(crate) fn status_number(status: &Status, column: StatusColumn) -> Option<i128>
+pub fn status_number(status: &Status, column: StatusColumn) -> Option<i128>
     ensures value { (s : State) (about : Object) → IfSome result (λ number.
         status_cell s about status.now column ≡ Number number) }
     ensures given { IsNumber (status_kind column) → IsHeldByStatus column → IsSome result }

@@ -1,21 +1,26 @@
 ghost use Rattle.std.specs.Prelude.{◌≡◌, ◌≤◌, ⊤, Bool, IfSome, length};
 ghost use Rattle.lq_columns.specs.Names.{IsContactNamed};
 ghost use Rattle.lq_filter.specs.Marks.{AreKeptBefore};
-ghost use Rattle.lq_filter.specs.Ready.{check_of_element, check_of_number};
+ghost use Rattle.lq_filter.specs.Ready.{check_of_element, check_of_number, check_of_text};
 ghost use Rattle.lq_filter.specs.Tests.{is_met};
 ghost use Rattle.lq_schema.specs.declared.columns.OwnColumn.TheVariants as own;
 ghost use Rattle.lq_schema.specs.declared.host.HostColumn.TheVariants as host_column;
 ghost use Rattle.lq_schema.specs.declared.object.ObjectColumn.TheVariants as object_column;
 ghost use Rattle.lq_schema.specs.declared.service.ServiceColumn.TheVariants as service_column;
 ghost use Rattle.lq_tables.specs.Cells.{own_cell};
+ghost use Rattle.lq_tables.specs.Statuses.{AreOfHosts, AreOfServices};
 ghost use Rattle.lq_tables.specs.declared.row.Row.{Row};
 
 use lq_columns::contact_named;
-use lq_filter::{ElementCheck, NumberCheck};
+use lq_events::Status;
+use lq_filter::{ElementCheck, NumberCheck, TextCheck};
 use lq_live::Live;
 use lq_records::ContactId;
-use lq_schema::{HostColumn, ServiceColumn};
-use lq_tables::{Row, host_lists_contact, host_number, service_lists_contact, service_number};
+use lq_schema::{HostColumn, ServiceColumn, StatusColumn};
+use lq_tables::{
+    Row, host_lists_contact, host_number, host_status_number, host_text, service_lists_contact,
+    service_number, service_status_number, service_text,
+};
 
 /// A test of rows of one table, for which its column has been looked at.
 pub(crate) trait RowTest {
@@ -33,6 +38,7 @@ pub(crate) trait RowTest {
 
 /// Keeps the marks of the first rows that meet a test, up to one that the test isn't made for, and
 /// says how many they are.
+#[inline(always)]
 pub(crate) fn keep_first<T: RowTest>(test: &T, rows: &[Row], marks: &mut [bool]) -> usize
     requires made { T.made test.now }
     requires marked { length marks.old ≡ length rows.now }
@@ -91,6 +97,210 @@ impl RowTest for ServiceNumber<'_> {
     fn is_met(&self, row: Row) -> Option<bool> {
         match service_number(self.live, row, self.column) {
             Some(number) => Some(self.check.is_met(number)),
+            None => None,
+        }
+    }
+}
+
+/// A test of a number of the statuses of hosts.
+#[derive(Drop)]
+struct HostStatus<'a> {
+    live: &'a Live,
+    /// Those of all hosts.
+    statuses: &'a [Status],
+    column: StatusColumn,
+    check: NumberCheck,
+}
+
+impl RowTest for HostStatus<'_> {
+    ghost made = { λ test. AreOfHosts test.live.now.state test.statuses.now };
+
+    ghost met = { λ test row. is_met (check_of_number test.check)
+        (own_cell test.live.now.state row (own.Host (host_column.Status test.column))) };
+
+    #[inline(always)]
+    fn is_met(&self, row: Row) -> Option<bool> {
+        match host_status_number(self.statuses, row, self.column) {
+            Some(number) => Some(self.check.is_met(number)),
+            None => None,
+        }
+    }
+}
+
+/// Keeps the marks of the first hosts whose status has a number in a column as a check asks, and
+/// says how many rows it looked at. The columns that hosts are counted by have a loop each, so
+/// that none of these asks at each row which column it is.
+pub(crate) fn keep_by_host_status(
+    live: &Live,
+    column: StatusColumn,
+    check: NumberCheck,
+    rows: &[Row],
+    marks: &mut [bool],
+) -> usize
+    requires marked { length marks.old ≡ length rows.now }
+    ensures within { result ≤ length rows.now }
+    ensures kept { AreKeptBefore (λ row. is_met (check_of_number check)
+        (own_cell live.now.state row (own.Host (host_column.Status column))))
+        rows.now marks.old marks.new result }
+{
+    match column {
+        StatusColumn::State => { keep_hosts(live, StatusColumn::State, check, rows, marks) }
+        StatusColumn::StateType => { keep_hosts(live, StatusColumn::StateType, check, rows, marks) }
+        StatusColumn::HasBeenChecked => {
+            keep_hosts(live, StatusColumn::HasBeenChecked, check, rows, marks)
+        }
+        StatusColumn::Acknowledged => {
+            keep_hosts(live, StatusColumn::Acknowledged, check, rows, marks)
+        }
+        _ => keep_hosts(live, column, check, rows, marks),
+    }
+}
+
+/// The same in one loop. Where the call names the column, so does the loop.
+#[inline(always)]
+fn keep_hosts(
+    live: &Live,
+    column: StatusColumn,
+    check: NumberCheck,
+    rows: &[Row],
+    marks: &mut [bool],
+) -> usize
+    requires marked { length marks.old ≡ length rows.now }
+    ensures within { result ≤ length rows.now }
+    ensures kept { AreKeptBefore (λ row. is_met (check_of_number check)
+        (own_cell live.now.state row (own.Host (host_column.Status column))))
+        rows.now marks.old marks.new result }
+{
+    let test = HostStatus {
+        live,
+        statuses: live.host_statuses(),
+        column,
+        check,
+    };
+    keep_first(&test, rows, marks)
+}
+
+/// A test of a number of the statuses of services.
+#[derive(Drop)]
+struct ServiceStatus<'a> {
+    live: &'a Live,
+    /// Those of all services.
+    statuses: &'a [Status],
+    column: StatusColumn,
+    check: NumberCheck,
+}
+
+impl RowTest for ServiceStatus<'_> {
+    ghost made = { λ test. AreOfServices test.live.now.state test.statuses.now };
+
+    ghost met = { λ test row. is_met (check_of_number test.check)
+        (own_cell test.live.now.state row (own.Service (service_column.Status test.column))) };
+
+    #[inline(always)]
+    fn is_met(&self, row: Row) -> Option<bool> {
+        match service_status_number(self.statuses, row, self.column) {
+            Some(number) => Some(self.check.is_met(number)),
+            None => None,
+        }
+    }
+}
+
+/// Keeps the marks of the first services whose status has a number in a column as a check asks, and
+/// says how many rows it looked at. The columns that services are counted by have a loop each, so
+/// that none of these asks at each row which column it is.
+pub(crate) fn keep_by_service_status(
+    live: &Live,
+    column: StatusColumn,
+    check: NumberCheck,
+    rows: &[Row],
+    marks: &mut [bool],
+) -> usize
+    requires marked { length marks.old ≡ length rows.now }
+    ensures within { result ≤ length rows.now }
+    ensures kept { AreKeptBefore (λ row. is_met (check_of_number check)
+        (own_cell live.now.state row (own.Service (service_column.Status column))))
+        rows.now marks.old marks.new result }
+{
+    match column {
+        StatusColumn::State => { keep_services(live, StatusColumn::State, check, rows, marks) }
+        StatusColumn::StateType => {
+            keep_services(live, StatusColumn::StateType, check, rows, marks)
+        }
+        StatusColumn::HasBeenChecked => {
+            keep_services(live, StatusColumn::HasBeenChecked, check, rows, marks)
+        }
+        StatusColumn::Acknowledged => {
+            keep_services(live, StatusColumn::Acknowledged, check, rows, marks)
+        }
+        _ => keep_services(live, column, check, rows, marks),
+    }
+}
+
+/// The same in one loop. Where the call names the column, so does the loop.
+#[inline(always)]
+fn keep_services(
+    live: &Live,
+    column: StatusColumn,
+    check: NumberCheck,
+    rows: &[Row],
+    marks: &mut [bool],
+) -> usize
+    requires marked { length marks.old ≡ length rows.now }
+    ensures within { result ≤ length rows.now }
+    ensures kept { AreKeptBefore (λ row. is_met (check_of_number check)
+        (own_cell live.now.state row (own.Service (service_column.Status column))))
+        rows.now marks.old marks.new result }
+{
+    let test = ServiceStatus {
+        live,
+        statuses: live.service_statuses(),
+        column,
+        check,
+    };
+    keep_first(&test, rows, marks)
+}
+
+/// A test of a text of hosts.
+#[derive(Drop)]
+pub(crate) struct HostText<'a> {
+    pub(crate) live: &'a Live,
+    pub(crate) column: HostColumn,
+    pub(crate) check: TextCheck<'a>,
+}
+
+impl RowTest for HostText<'_> {
+    ghost made = { λ _. ⊤ };
+
+    ghost met = { λ test row. is_met (check_of_text test.check)
+        (own_cell test.live.now.state row (own.Host test.column)) };
+
+    #[inline]
+    fn is_met(&self, row: Row) -> Option<bool> {
+        match host_text(self.live, row, self.column) {
+            Some(text) => Some(self.check.is_met(text)),
+            None => None,
+        }
+    }
+}
+
+/// A test of a text of services.
+#[derive(Drop)]
+pub(crate) struct ServiceText<'a> {
+    pub(crate) live: &'a Live,
+    pub(crate) column: ServiceColumn,
+    pub(crate) check: TextCheck<'a>,
+}
+
+impl RowTest for ServiceText<'_> {
+    ghost made = { λ _. ⊤ };
+
+    ghost met = { λ test row. is_met (check_of_text test.check)
+        (own_cell test.live.now.state row (own.Service test.column)) };
+
+    #[inline]
+    fn is_met(&self, row: Row) -> Option<bool> {
+        match service_text(self.live, row, self.column) {
+            Some(text) => Some(self.check.is_met(text)),
             None => None,
         }
     }

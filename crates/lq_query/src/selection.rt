@@ -4,8 +4,11 @@ ghost use Rattle.lq_filter.specs.declared.header.Header.{Header};
 ghost use Rattle.lq_schema.specs.Value.{Number, Words, shown};
 ghost use Rattle.lq_tables.specs.Cells.{cell_of};
 
-use crate::row_test::{HostContact, HostNumber, ServiceContact, ServiceNumber, keep_first};
-use lq_filter::{ElementCheck, NumberCheck, ReadyFilter, Scan};
+use crate::row_test::{
+    HostContact, HostNumber, HostText, ServiceContact, ServiceNumber, ServiceText,
+    keep_by_host_status, keep_by_service_status, keep_first,
+};
+use lq_filter::{ElementCheck, NumberCheck, ReadyFilter, Scan, TextCheck};
 use lq_live::Live;
 use lq_records::Memory;
 use lq_schema::{Col, HostColumn, ObjectColumn, OwnColumn, ServiceColumn, Val};
@@ -83,6 +86,12 @@ impl Scan for LiveScan<'_> {
     fn keep_numbers(&self, rows: &[Row], c: Col, check: NumberCheck, marks: &mut [bool]) -> usize {
         let live = self.live;
         match c.own {
+            OwnColumn::Host(HostColumn::Status(column)) => {
+                keep_by_host_status(live, column, check, rows, marks)
+            }
+            OwnColumn::Service(ServiceColumn::Status(column)) => {
+                keep_by_service_status(live, column, check, rows, marks)
+            }
             OwnColumn::Host(column) => {
                 keep_first(
                     &HostNumber {
@@ -104,6 +113,29 @@ impl Scan for LiveScan<'_> {
                     rows,
                     marks,
                 )
+            }
+            _ => 0,
+        }
+    }
+
+    fn keep_texts(&self, rows: &[Row], c: Col, check: TextCheck<'_>, marks: &mut [bool]) -> usize {
+        let live = self.live;
+        match c.own {
+            OwnColumn::Host(column) => {
+                let test = HostText {
+                    live,
+                    column,
+                    check,
+                };
+                keep_first(&test, rows, marks)
+            }
+            OwnColumn::Service(column) => {
+                let test = ServiceText {
+                    live,
+                    column,
+                    check,
+                };
+                keep_first(&test, rows, marks)
             }
             _ => 0,
         }

@@ -1,4 +1,5 @@
 pub mod Schema
+pub mod Statuses
 pub mod Rows
 pub mod Listed
 pub mod About

@@ -2,6 +2,7 @@ ghost use Rattle.std.specs.Prelude.{◌≡◌, ℕ, IfOk, IsOk, List};
 ghost use Rattle.std.specs.Option.{IfSome, IsSome};
 ghost use Rattle.lq_columns.specs.Names.{IsContactNamed, has_text};
 ghost use Rattle.lq_columns.specs.Plain.{IsNumber, IsText};
+ghost use Rattle.lq_live.specs.State.{State};
 ghost use Rattle.lq_schema.specs.Kinds.{own_kind};
 ghost use Rattle.lq_schema.specs.Value.{Number, Texts, Words, empty_value, shown};
 ghost use Rattle.lq_schema.specs.declared.columns.ColKind.TheVariants as column_kind;
@@ -11,6 +12,7 @@ ghost use Rattle.lq_schema.specs.declared.object.ObjectColumn.TheVariants as obj
 ghost use Rattle.lq_schema.specs.declared.service.ServiceColumn.TheVariants as service_column;
 ghost use Rattle.lq_tables.specs.Cells.{cell_of, own_cell};
 ghost use Rattle.lq_tables.specs.Light.{IsHeld, IsLight, IsSearchedIn};
+ghost use Rattle.lq_tables.specs.Statuses.{AreOfHosts, AreOfServices};
 
 use crate::about::{
     host_of, row_command, row_comment, row_contact, row_contact_group, row_downtime, row_entry,
@@ -26,11 +28,13 @@ use crate::remarks::{
     comment_number, comment_text, comment_value, downtime_number, downtime_text, downtime_value,
 };
 use crate::row::Row;
-use lq_columns::{HostRow, ServiceRow, empty_number, empty_text, empty_value};
-use lq_events::{Comment, Downtime};
+use lq_columns::{HostRow, ServiceRow, empty_number, empty_text, empty_value, status_number};
+use lq_events::{Comment, Downtime, Status};
 use lq_live::Live;
 use lq_records::{ContactId, Memory};
-use lq_schema::{Col, ColKind, HostColumn, OwnColumn, ServiceColumn, Table, Val, kind};
+use lq_schema::{
+    Col, ColKind, HostColumn, OwnColumn, ServiceColumn, StatusColumn, Table, Val, kind,
+};
 use std::alloc::Global;
 use std::marker::Model;
 
@@ -230,6 +234,58 @@ pub fn service_number(live: &Live, row: Row, column: ServiceColumn) -> Option<i1
 {
     match row {
         Row::Service(id) => ServiceRow::at(live, id)?.number(column),
+        _ => None,
+    }
+}
+
+/// The number of a column of a host's status, as `host_number` gives it, out of the statuses of all
+/// hosts. A loop over many rows has these at hand, and looks at nothing else.
+#[inline(always)]
+pub fn host_status_number(statuses: &[Status], row: Row, column: StatusColumn) -> Option<i128>
+    ensures value { (s : State) → AreOfHosts s statuses.now → IfSome result (λ number.
+        own_cell s row (own.Host (host_column.Status column)) ≡ Number number) }
+{
+    match row {
+        Row::Host(id) => status_number(statuses.get(id.0 as usize)?, column),
+        _ => None,
+    }
+}
+
+/// The number of a column of a service's status, as `service_number` gives it, out of the statuses
+/// of all services.
+#[inline(always)]
+pub fn service_status_number(statuses: &[Status], row: Row, column: StatusColumn) -> Option<i128>
+    ensures value { (s : State) → AreOfServices s statuses.now → IfSome result (λ number.
+        own_cell s row (own.Service (service_column.Status column)) ≡ Number number) }
+{
+    match row {
+        Row::Service(id) => status_number(statuses.get(id.0 as usize)?, column),
+        _ => None,
+    }
+}
+
+/// The text of a column of hosts where the row is a host of their table, as `row_text` gives it;
+/// None for any other row.
+#[inline(always)]
+pub fn host_text(live: &Live, row: Row, column: HostColumn) -> Option<&str>
+    ensures value { IfSome result (λ text.
+        own_cell live.now.state row (own.Host column) ≡ Words text.now) }
+{
+    match row {
+        Row::Host(id) => HostRow::at(live, id)?.text(column),
+        _ => None,
+    }
+}
+
+/// The text of a column of services where the row is a service of their table, as `row_text` gives
+/// it; None for any other row.
+#[inline(always)]
+pub fn service_text(live: &Live, row: Row, column: ServiceColumn) -> Option<&str>
+    ensures value { IfSome result (λ text.
+        own_cell live.now.state row (own.Service column) ≡ Words text.now) }
+{
+    match row {
+        Row::Service(id) => ServiceRow::at(live, id)?.text(column),
         _ => None,
     }
 }

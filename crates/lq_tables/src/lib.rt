@@ -15,8 +15,9 @@ mod schema;
 mod value;
 
 pub use cells::{
-    RowCells, cell, host_lists_contact, host_number, row_contains, row_number, row_text,
-    service_lists_contact, service_number,
+    RowCells, cell, host_lists_contact, host_number, host_status_number, host_text, row_contains,
+    row_number, row_text, service_lists_contact, service_number, service_status_number,
+    service_text,
 };
 pub use listing::{Rows, rows};
 pub use row::Row;
