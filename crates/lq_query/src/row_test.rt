@@ -144,8 +144,8 @@ pub(crate) fn keep_by_host_status(
         rows.now marks.old marks.new result }
 {
     match column {
-        StatusColumn::State => { keep_hosts(live, StatusColumn::State, check, rows, marks) }
-        StatusColumn::StateType => { keep_hosts(live, StatusColumn::StateType, check, rows, marks) }
+        StatusColumn::State => keep_hosts(live, StatusColumn::State, check, rows, marks),
+        StatusColumn::StateType => keep_hosts(live, StatusColumn::StateType, check, rows, marks),
         StatusColumn::HasBeenChecked => {
             keep_hosts(live, StatusColumn::HasBeenChecked, check, rows, marks)
         }
@@ -222,7 +222,7 @@ pub(crate) fn keep_by_service_status(
         rows.now marks.old marks.new result }
 {
     match column {
-        StatusColumn::State => { keep_services(live, StatusColumn::State, check, rows, marks) }
+        StatusColumn::State => keep_services(live, StatusColumn::State, check, rows, marks),
         StatusColumn::StateType => {
             keep_services(live, StatusColumn::StateType, check, rows, marks)
         }
