@@ -94,7 +94,7 @@ fn assert_run<R: Abort + AllocGlobal>(
 
 #[test]
 fn answers_a_query_on_hosts(rt: HostRuntime) -> Result<(), Fail> {
-    let cases: [(&[u8], &[u8]); 14] = [
+    let cases: [(&[u8], &[u8]); 19] = [
         (
             b"GET hosts\nColumns: name alias address state\n\n",
             b"web1;Web One;10.0.0.1;0\nweb2;Web Two;10.0.0.2;0\n",
@@ -124,6 +124,27 @@ fn answers_a_query_on_hosts(rt: HostRuntime) -> Result<(), Fail> {
         (b"GET\n\n", b""),
         (b"FOO\n", b""),
         (b"", b""),
+        (
+            b"GET hosts\nColumns: name state\nLimit: 1\nResponseHeader: fixed16\n\n",
+            b"200           7\nweb1;0\n",
+        ),
+        (
+            b"GET nothing\nResponseHeader: fixed16\n\n",
+            b"404          23\nunknown table: nothing\n",
+        ),
+        (
+            b"GET\nResponseHeader: fixed16\n\n",
+            b"451          19\nmissing table name\n",
+        ),
+        (
+            b"FOO\nResponseHeader: fixed16\n\n",
+            b"452          16\ninvalid request\n",
+        ),
+        (
+            b"GET hosts\nColumns: name nope\nKeepAlive: on\nResponseHeader: fixed16\n\n\
+              GET hosts\nColumns: name\nLimit: 1\n\n",
+            b"450          21\nunknown column: nope\nweb1\n",
+        ),
     ];
     for (input, output) in cases {
         assert_run(&rt, &["ask", "f"], &STEADY, input, (0, output, b""))?;
@@ -784,30 +805,54 @@ fn a_file_has_67_108_864_bytes_at_most(rt: HostRuntime) -> Result<(), Fail> {
     )
 }
 
-#[test]
-fn a_reply_has_8_388_608_bytes_at_most(rt: HostRuntime) -> Result<(), Fail> {
+/// The formats, and what a body of one name has around it.
+const AROUND: [(&[u8], &[u8], &[u8]); 3] = [
+    (b"csv", b"", b"\n"),
+    (b"CSV", b"", b"\r\n"),
+    (b"json", b"[[\"", b"\"]]\n"),
+];
+
+/// Asks for the name of one host in a format, with a body of the most bytes and of one more.
+fn assert_largest<R: Abort + AllocGlobal>(
+    rt: &R,
+    (format, before, after): (&[u8], &[u8], &[u8]),
+) -> Result<(), Fail> {
     let alloc = rt.alloc();
-    let query = b"GET hosts\nColumns: name\n\n";
+    let mut query = Vec::from_slice(alloc, b"GET hosts\nColumns: name\nOutputFormat: ")?;
+    query.extend_from_slice(format)?;
+    query.extend_from_slice(b"\nResponseHeader: fixed16\n\n")?;
     let front = b"define host {\n host_name ";
-    let most = padded(alloc, front, b'a', 8_388_607, b"\n}")?;
+    let count = 8_388_608 - before.len() - after.len();
+    let most = padded(alloc, front, b'a', count, b"\n}")?;
     let within = Outside {
         file: most.as_slice(),
         ..STEADY
     };
-    let reply = padded(alloc, b"", b'a', 8_388_607, b"\n")?;
+    let mut head = Vec::from_slice(alloc, b"200     8388608\n")?;
+    head.extend_from_slice(before)?;
+    let reply = padded(alloc, &head, b'a', count, after)?;
     assert_run(
-        &rt,
+        rt,
         &["ask", "f"],
         &within,
-        query,
+        &query,
         (0, reply.as_slice(), b""),
     )?;
-    let more = padded(alloc, front, b'a', 8_388_608, b"\n}")?;
+    let more = padded(alloc, front, b'a', count + 1, b"\n}")?;
     let past = Outside {
         file: more.as_slice(),
         ..STEADY
     };
-    assert_run(&rt, &["ask", "f"], &past, query, (0, b"", b""))
+    let refused = b"413          16\nreply too large\n";
+    assert_run(rt, &["ask", "f"], &past, &query, (0, refused, b""))
+}
+
+#[test]
+fn a_reply_has_8_388_608_bytes_at_most(rt: HostRuntime) -> Result<(), Fail> {
+    for around in AROUND {
+        assert_largest(&rt, around)?;
+    }
+    Ok(())
 }
 
 #[test]
@@ -824,5 +869,18 @@ fn a_message_has_65_536_bytes_at_most(rt: HostRuntime) -> Result<(), Fail> {
     )?;
     let back = b"\n\nGET hosts\nColumns: name\n\n";
     let more = padded(alloc, front, b' ', 65_536 - front.len() - 1, back)?;
-    assert_run(&rt, &["ask", "f"], &STEADY, &more, (0, b"", b""))
+    assert_run(&rt, &["ask", "f"], &STEADY, &more, (0, b"", b""))?;
+    assert_told(&rt)
+}
+
+/// The same where the query asks for the line of 16 bytes: the message has 65 bytes and the name.
+fn assert_told<R: Abort + AllocGlobal>(rt: &R) -> Result<(), Fail> {
+    let alloc = rt.alloc();
+    let front = b"GET hosts\nResponseHeader: fixed16\nColumns: name\nFilter: name = ";
+    let most = padded(alloc, front, b'a', 65_471, b"\n\n")?;
+    let none = b"200           0\n";
+    assert_run(rt, &["ask", "f"], &STEADY, &most, (0, none, b""))?;
+    let more = padded(alloc, front, b'a', 65_472, b"\n\n")?;
+    let refused = b"413          18\nrequest too large\n";
+    assert_run(rt, &["ask", "f"], &STEADY, &more, (0, refused, b""))
 }
