@@ -135,16 +135,28 @@ fn cells_want_memory_for_their_last_items(rt: HostRuntime) -> Result<(), Fail> {
     assert_cells(&rt, &live)
 }
 
-/// A line for each host, which was never checked; without `all` for those alone whose number
-/// doesn't end with 0.
-fn lines_of_hosts(alloc: Global, all: bool) -> Result<String, AllocError> {
-    let mut lines = String::new(alloc);
+/// What a reply on hosts has before the first number of a host, between two, and after the last.
+#[derive(Clone, Copy)]
+struct Around<'a> {
+    front: &'a str,
+    between: &'a str,
+    back: &'a str,
+}
+
+/// The numbers of all hosts, or of those alone that don't end with 0.
+fn lines_of_hosts(alloc: Global, around: Around<'_>, all: bool) -> Result<String, AllocError> {
+    let mut lines = String::from_str(alloc, around.front)?;
+    let mut begun = false;
     for number in 0..COUNT {
         if all || number % 10 != 0 {
-            let line = format!(in alloc; "h{number};0;0;;\n")?;
-            lines.push_str(line.as_str())?;
+            if begun {
+                lines.push_str(around.between)?;
+            }
+            lines.push_str(number.to_string(alloc)?.as_str())?;
+            begun = true;
         }
     }
+    lines.push_str(around.back)?;
     Ok(lines)
 }
 
@@ -191,12 +203,62 @@ const ALL: &str = "GET hosts\nColumns: name state last_check plugin_output comme
 const CHOSEN: &str = "GET hosts\nColumns: name state last_check plugin_output comments
 Filter: name !~ 0$\nFilter: comments =";
 
+/// The hosts were never checked.
+const IN_CSV: Around<'static> = Around {
+    front: "h",
+    between: ";0;0;;\nh",
+    back: ";0;0;;\n",
+};
+
+/// Queries on all hosts, what each is, in how many pieces of room at least its answer fails, and
+/// what its reply has around the numbers of the hosts.
+const FORMS: &[(&str, usize, &str, Around<'static>)] = &[
+    ("answer", 6, ALL, IN_CSV),
+    (
+        "answer in CSV",
+        6,
+        "GET hosts\nColumns: name state last_check plugin_output comments\nOutputFormat: CSV",
+        Around {
+            front: "h",
+            between: ",0,0,,\r\nh",
+            back: ",0,0,,\r\n",
+        },
+    ),
+    (
+        "answer in json",
+        8,
+        "GET hosts\nColumns: name state last_check plugin_output comments\nOutputFormat: json",
+        Around {
+            front: "[[\"h",
+            between: "\",0,0,\"\",[]],\n[\"h",
+            back: "\",0,0,\"\",[]]]\n",
+        },
+    ),
+    (
+        "groups",
+        16,
+        "GET hosts\nColumns: name\nStats: state = 0\nStats: avg state",
+        Around {
+            front: "h",
+            between: ";1;0.000000\nh",
+            back: ";1;0.000000\n",
+        },
+    ),
+];
+
+fn assert_forms<R: Abort + AllocGlobal>(rt: &R, live: &Live) -> Result<(), Fail> {
+    for (name, pieces, query, around) in FORMS {
+        let lines = lines_of_hosts(rt.alloc(), *around, true)?;
+        assert_answer(rt, live, (*name, *pieces, *query, lines.as_str()))?;
+    }
+    Ok(())
+}
+
 fn assert_answers<R: Abort + AllocGlobal>(rt: &R, live: &Live) -> Result<(), Fail> {
-    let all = lines_of_hosts(rt.alloc(), true)?;
-    let chosen = lines_of_hosts(rt.alloc(), false)?;
+    assert_forms(rt, live)?;
+    let chosen = lines_of_hosts(rt.alloc(), IN_CSV, false)?;
     let patterns = query_of_patterns(rt.alloc())?;
     for case in [
-        ("answer", 6, ALL, all.as_str()),
         ("answer with a filter", 8, CHOSEN, chosen.as_str()),
         ("answer with many patterns", 20, patterns.as_str(), "1000\n"),
     ] {

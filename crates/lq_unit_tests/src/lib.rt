@@ -1,5 +1,5 @@
 //! The tests of single calls of the libraries that read and write: bytes, streams and files, texts
-//! and lists, lines of a log, the faults of object files, messages.
+//! and lists, lines of a log, the faults of object files, messages, statistics.
 #![tactic(auto)]
 
 #[cfg(test)]
@@ -12,5 +12,7 @@ mod outside;
 mod records;
 #[cfg(test)]
 mod request;
+#[cfg(test)]
+mod stats;
 #[cfg(test)]
 mod text;
