@@ -8,7 +8,7 @@ use Rattle.std.proofs.lemmas.List.Elements.{All-from_recursion, All-map}
 use Rattle.lq_schema.specs.Value.{shown}
 use Rattle.lq_stats.specs.Grouped.{AreGroupsOf, Grouped, HasRows, kept_lines}
 use Rattle.lq_stats.specs.Groups.{IsCellOf, Key, Line, Row, column, is_marked, keys_of, lines_of, numbers, rows_of, same_key, shown_line, sum_of, values_from, value_of}
-use Rattle.lq_stats.specs.Totals.{IsSized, IsSmall, total_of, total_value, totals_from}
+use Rattle.lq_stats.specs.Totals.{HasRoom, IsSized, IsSmall, total_of, total_value, totals_from}
 use Rattle.lq_stats.specs.declared.cell.StatCell.{StatCell}
 use Rattle.lq_stats.specs.declared.cell.StatCell.TheVariants as cell
 use Rattle.lq_stats.specs.declared.kind.StatKind.{StatKind}
@@ -19,7 +19,7 @@ use Rattle.lq_stats.proofs.StatsLemmas.{as_long}
 
 -- ---- cells
 
-size_of-add : (a b : ℤ) → unsigned_abs (a +ℤ b) ≤ unsigned_abs a + unsigned_abs b
+pub size_of-add : (a b : ℤ) → unsigned_abs (a +ℤ b) ≤ unsigned_abs a + unsigned_abs b
 size_of-add a b = omega (arith, ints)
 
 few_numbers : (cells : List StatCell) → length (numbers cells) ≤ length cells
@@ -46,13 +46,20 @@ small_total kind.Min cells sized few = tt
 small_total kind.Max cells sized few = tt
 small_total kind.Avg cells sized few = (omega (arith, few, few_numbers cells), omega (arith, few, size_of_sum cells sized))
 
+room_in_total : (more : ℕ) (kind : StatKind) (cells : List StatCell) → AllByRecursion IsSized cells → length cells + more ≤ 2 ^ 40 → HasRoom more (total_of kind cells)
+room_in_total more kind.Count cells sized few = omega (arith, few, few_marked cells)
+room_in_total more kind.Sum cells sized few = omega (arith, few, size_of_sum cells sized)
+room_in_total more kind.Min cells sized few = tt
+room_in_total more kind.Max cells sized few = tt
+room_in_total more kind.Avg cells sized few = (omega (arith, few, few_numbers cells), omega (arith, few, size_of_sum cells sized))
+
 -- ---- rows
 
 -- rows whose numbers are within their limits
 abbrev AreSized : List Row → Type 0
 AreSized rows = AllByRecursion (λ (row : Row). AllByRecursion IsSized row.cells) rows
 
-sized_at : (cells : List StatCell) (place : ℕ) (later : List StatCell) → AllByRecursion IsSized cells → AllByRecursion IsSized later
+pub sized_at : (cells : List StatCell) (place : ℕ) (later : List StatCell) → AllByRecursion IsSized cells → AllByRecursion IsSized later
     → AllByRecursion IsSized (cons_option (slice_get cells place) later)
 sized_at [] place later sized rest = rest
 sized_at (first ∷ cells) zero later sized rest = (sized.0, rest)
@@ -95,6 +102,13 @@ small_from (kind ∷ kinds) place rows sized few = (
   small_from kinds (suc place) rows sized few,
 )
 
+room_from : (more : ℕ) (kinds : List StatKind) (place : ℕ) (rows : List Row) → AreSized rows → length rows + more ≤ 2 ^ 40 → AllByRecursion (HasRoom more) (totals_from place kinds rows)
+room_from more [] place rows sized few = tt
+room_from more (kind ∷ kinds) place rows sized few = (
+  room_in_total more kind (column place rows) (sized_column place rows sized) (omega (arith, few, few_in_column place rows)),
+  room_from more kinds (suc place) rows sized few,
+)
+
 as_many : (kinds : List StatKind) (place : ℕ) (rows : List Row) → length (totals_from place kinds rows) ≡ length kinds
 as_many [] place rows = refl
 as_many (kind ∷ kinds) place rows = ap suc (as_many kinds (suc place) rows)
@@ -109,6 +123,22 @@ small_totals groups has =
     All-from_recursion IsSmall (group key)
     (small_from groups.spec.entries 0 (rows_of key has.rows) (sized_group key has.rows has.cells) (let few = has.few in omega (arith, few, few_in_group key has.rows))) in
     subst (All (All IsSmall)) (sym has.are.totals) (All-map (All IsSmall) group (keys_of groups.spec.keys has.rows) (λ k d below. each _))
+
+pub room_in_totals : (more : ℕ) (groups : Grouped) → HasRows groups → groups.count + more ≤ 2 ^ 40 → All (All (HasRoom more)) groups.totals
+room_in_totals more groups has few =
+    let group : Key → List Total = λ key. totals_from 0 groups.spec.entries (rows_of key has.rows) in
+    let each : (key : Key) → All (HasRoom more) (group key) = λ key.
+    All-from_recursion (HasRoom more) (group key)
+    (room_from more groups.spec.entries 0 (rows_of key has.rows) (sized_group key has.rows has.cells) (let count = has.are.count in omega (arith, few, count, few_in_group key has.rows))) in
+    subst (All (All (HasRoom more))) (sym has.are.totals) (All-map (All (HasRoom more)) group (keys_of groups.spec.keys has.rows) (λ k d below. each _))
+
+-- each group has as many totals as there are statistics
+pub totals_as_many : (groups : Grouped) → HasRows groups → All (λ (each : List Total). length groups.spec.entries ≡ length each) groups.totals
+totals_as_many groups has =
+    let group : Key → List Total = λ key. totals_from 0 groups.spec.entries (rows_of key has.rows) in
+    let Long : List Total → Type 0 = λ each. length groups.spec.entries ≡ length each in
+    let each : (key : Key) → Long (group key) = λ key. sym (as_many groups.spec.entries 0 (rows_of key has.rows)) in
+    subst (All Long) (sym has.are.totals) (All-map Long group (keys_of groups.spec.keys has.rows) (λ k d below. each _))
 
 pub long_totals : (groups : Grouped) (cells : List StatCell) → HasRows groups → AllZip IsCellOf groups.spec.entries cells
     → All (λ (each : List Total). length cells ≡ length each) groups.totals

@@ -4,3 +4,5 @@ pub mod GroupLemmas
 pub mod RowLemmas
 pub mod StatsLemmas
 pub mod BoundLemmas
+pub mod ColumnLemmas
+pub mod MarkLemmas

@@ -1,5 +1,5 @@
 -- What is kept of the cells of a statistic while rows are counted.
-use Rattle.std.specs.Prelude.{ℕ, suc, ◌≤◌, ◌+◌, ◌^◌, true, ℤ, pos, ◌+ℤ◌, List, [], ◌∷◌, Option, Some, None, ⊤, filter, length, unwrap_or, unsigned_abs}
+use Rattle.std.specs.Prelude.{ℕ, suc, ◌≤◌, ◌+◌, ◌*◌, ◌^◌, true, ℤ, pos, ◌+ℤ◌, List, [], ◌∷◌, Option, Some, None, ⊤, filter, length, unwrap_or, unsigned_abs}
 use Rattle.std.specs.Int.{int_max, int_min}
 use Rattle.lq_schema.specs.Value.{Value, Number, Millionths}
 use Rattle.lq_stats.specs.Groups.{Row, average, column, greatest, is_marked, least, numbers, sum_of}
@@ -72,3 +72,12 @@ IsSmall (total.Sum sum) = unsigned_abs sum ≤ 2 ^ 104
 IsSmall (total.Min least) = ⊤
 IsSmall (total.Max greatest) = ⊤
 IsSmall (total.Avg mean) = (mean.count ≤ 2 ^ 40) × (unsigned_abs mean.sum ≤ 2 ^ 104)
+
+-- kept of so few cells of that size that so many more can be added
+abbrev pub HasRoom : ℕ → Total → Type 0
+HasRoom more (total.Count count) = count + more ≤ 2 ^ 40
+HasRoom more (total.Sum sum) = unsigned_abs sum + more * 2 ^ 64 ≤ 2 ^ 104
+HasRoom more (total.Min least) = ⊤
+HasRoom more (total.Max greatest) = ⊤
+HasRoom more (total.Avg mean) =
+    (mean.count + more ≤ 2 ^ 40) × (unsigned_abs mean.sum + more * 2 ^ 64 ≤ 2 ^ 104)

@@ -1,12 +1,14 @@
-ghost use Rattle.std.specs.Prelude.{◌≡◌, ◌+◌, ◌<◌, ◌^◌, ◌++◌, ◌∷◌, [], All, IfOk, IfSome, List, None, OnErr, OnOk, Some, length, map, position, slice_get, slice_index_or, slice_set};
-ghost use Rattle.std.specs.List.{AllZip};
+ghost use Rattle.std.specs.Prelude.{◌≡◌, ◌+◌, ◌<◌, ◌^◌, ◌++◌, ◌∷◌, [], All, IfOk, IfSome, List, None, OnErr, OnOk, Some, ◌≤◌, count_by, length, map, position, slice_get, slice_index_or, slice_set};
+ghost use Rattle.std.specs.List.{AllByRecursion, AllZip};
 ghost use Rattle.lq_schema.specs.Value.{shown};
+ghost use Rattle.lq_stats.specs.Columns.{IsColumnOf, column_cells, marked_rows, with_columns};
 ghost use Rattle.lq_stats.specs.Groups.{IsCellOf, Row, keys_of, lines_of, same_key, shown_line};
 ghost use Rattle.lq_stats.specs.Grouped.{AreGroupsOf, added, kept_lines, raised, totals_of};
 ghost use Rattle.lq_stats.specs.Keys.{key_values};
-ghost use Rattle.lq_stats.specs.Totals.{IsSized, IsSmall, total_of, with_cells};
+ghost use Rattle.lq_stats.specs.Totals.{HasRoom, IsSized, IsSmall, total_of, with_cells};
 
 use crate::cell::StatCell;
+use crate::column::StatColumn;
 use crate::key::KeyCell;
 use crate::key_set::KeySet;
 use crate::kind::StatKind;
@@ -115,6 +117,27 @@ impl Groups {
         }
     }
 
+    /// Counts the marked rows of statistics without columns, of which each has a column of cells.
+    ///
+    /// No key is begun, and each column is one that its statistic takes: as many cells as there are
+    /// marks, which are `Counted` for `StatKind::Count`, else numbers that are at most 2^64 away
+    /// from zero. At most 2^40 rows are counted in all. It takes no memory.
+    pub fn take_marked(&mut self, marks: &[bool], columns: &[StatColumn])
+        requires keys { self.old.spec.keys ≡ 0 }
+        requires next { self.old.next ≡ [] }
+        requires columns { AllZip (IsColumnOf (length marks.now)) self.old.spec.entries
+            (map column_cells columns.now) }
+        requires few { self.old.count + length marks.now ≤ 2 ^ 40 }
+        ensures groups { (rows : List Row) → AreGroupsOf self.old rows → AreGroupsOf self.new
+            (rows ++ marked_rows 0 marks.now (map column_cells columns.now)) }
+        ensures spec { self.new.spec ≡ self.old.spec }
+        ensures next { self.new.next ≡ [] }
+        ensures count { self.new.count ≡ self.old.count + count_by (λ mark. mark) marks.now }
+    {
+        add_marked(&mut self.totals, marks, columns);
+        self.count += count_of(marks);
+    }
+
     /// The groups, in the order in which each had its first row. The only error is that memory
     /// runs out.
     pub fn lines(&self) -> Result<Items<StatLine>, Memory>
@@ -208,6 +231,26 @@ fn add_row(totals: &mut Vec<Totals>, place: usize, cells: &[StatCell])
         (with_cells (slice_index_or totals.old.items place []) cells.now) }
 {
     totals[place].add(cells);
+}
+
+/// Adds the marked rows to what is kept of the first group.
+fn add_marked(totals: &mut Vec<Totals>, marks: &[bool], columns: &[StatColumn])
+    requires some { 0 < length totals.old.items }
+    requires count { All (λ each. length columns.now ≡ length each) totals.old.items }
+    requires room { All (All (HasRoom (length marks.now))) totals.old.items }
+    requires long { All (λ column. length (column_cells column) ≡ length marks.now) columns.now }
+    requires sized { All (λ column. AllByRecursion IsSized (column_cells column)) columns.now }
+    ensures { totals.new.items ≡ slice_set totals.old.items 0 (with_columns marks.now
+        (slice_index_or totals.old.items 0 []) (map column_cells columns.now)) }
+{
+    totals[0].add_columns(marks, columns);
+}
+
+/// How many rows are marked.
+fn count_of(marks: &[bool]) -> u64
+    ensures { result ≡ count_by (λ mark. mark) marks.now }
+{
+    marks.iter().filter(|mark| **mark).count() as u64
 }
 
 /// What is kept of one row. The only error is that memory runs out.

@@ -3,6 +3,7 @@
 #![tactic(auto)]
 
 mod cell;
+mod column;
 mod groups;
 mod key;
 mod key_set;
@@ -12,6 +13,7 @@ mod total;
 mod totals;
 
 pub use cell::StatCell;
+pub use column::StatColumn;
 pub use groups::Groups;
 pub use kind::StatKind;
 pub use spec::{StatLine, StatsSpec};

@@ -1,9 +1,13 @@
-ghost use Rattle.std.specs.Prelude.{◌≡◌, ◌≤◌, ◌^◌, [], unsigned_abs};
+ghost use Rattle.std.specs.Prelude.{◌≡◌, ◌≤◌, ◌^◌, [], length, map, unsigned_abs};
+ghost use Rattle.std.specs.List.{AllByRecursion};
 ghost use Rattle.lq_schema.specs.Value.{shown};
+ghost use Rattle.lq_stats.specs.Columns.{column_cells, marked_by_both, with_column};
 ghost use Rattle.lq_stats.specs.Groups.{average};
-ghost use Rattle.lq_stats.specs.Totals.{IsSized, IsSmall, greater, lesser, total_of, total_value, with_cell};
+ghost use Rattle.lq_stats.specs.Totals.{HasRoom, IsSized, IsSmall, greater, lesser, total_of, total_value, with_cell};
+ghost use Rattle.lq_stats.specs.declared.cell.StatCell.TheVariants as cell;
 
 use crate::cell::StatCell;
+use crate::column::StatColumn;
 use crate::kind::StatKind;
 use lq_records::Micro;
 use lq_schema::Val;
@@ -69,6 +73,45 @@ impl Total {
         }
     }
 
+    /// What is kept with the cells of the marked rows more.
+    pub fn with_column(self, marks: &[bool], column: &StatColumn) -> Total
+        requires long { length (column_cells column.now) ≡ length marks.now }
+        requires room { HasRoom (length marks.now) self }
+        requires sized { AllByRecursion IsSized (column_cells column.now) }
+        ensures { result ≡ with_column marks.now self (column_cells column.now) }
+    {
+        match column {
+            StatColumn::Marks(counted) => self.with_marks(marks, counted),
+            StatColumn::Numbers(numbers) => self.with_numbers(marks, numbers),
+        }
+    }
+
+    fn with_marks(self, marks: &[bool], counted: &[bool]) -> Total
+        requires long { length counted.now ≡ length marks.now }
+        requires room { HasRoom (length marks.now) self }
+        ensures { result ≡ with_column marks.now self (map cell.Counted counted.now) }
+    {
+        match self {
+            Total::Count(count) => Total::Count(count + marked_by_both(marks, counted)),
+            Total::Sum(_) | Total::Min(_) | Total::Max(_) | Total::Avg(_) => self,
+        }
+    }
+
+    fn with_numbers(self, marks: &[bool], numbers: &[i128]) -> Total
+        requires long { length numbers.now ≡ length marks.now }
+        requires room { HasRoom (length marks.now) self }
+        requires sized { AllByRecursion IsSized (map cell.Number numbers.now) }
+        ensures { result ≡ with_column marks.now self (map cell.Number numbers.now) }
+    {
+        let mut total = self;
+        for (i, mark) in marks.iter().enumerate() {
+            if *mark {
+                total = total.with(StatCell::Number(numbers[i]));
+            }
+        }
+        total
+    }
+
     /// The value of the statistic.
     pub fn value(self) -> Val<'static>
         requires { IsSmall self }
@@ -94,6 +137,20 @@ impl Mean {
         }
         Micro::quotient(self.sum, self.count)
     }
+}
+
+/// How many rows are marked by both. There is no branch in the loop, so that it counts many rows at
+/// once.
+fn marked_by_both(marks: &[bool], counted: &[bool]) -> u64
+    requires { length counted.now ≡ length marks.now }
+    ensures both { result ≡ marked_by_both marks.now counted.now }
+    ensures few { result ≤ length marks.now }
+{
+    let mut both = 0;
+    for i in 0..marks.len() {
+        both += u64::from(marks[i] & counted[i]);
+    }
+    both
 }
 
 fn lesser(least: Option<i128>, number: i128) -> i128

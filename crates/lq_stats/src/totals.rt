@@ -1,8 +1,11 @@
 ghost use Rattle.std.specs.Prelude.{◌≡◌, [], All, IfOk, length, map};
+ghost use Rattle.std.specs.List.{AllByRecursion};
 ghost use Rattle.lq_schema.specs.Value.{shown};
-ghost use Rattle.lq_stats.specs.Totals.{IsSized, IsSmall, total_of, total_value, with_cells};
+ghost use Rattle.lq_stats.specs.Columns.{column_cells, with_columns};
+ghost use Rattle.lq_stats.specs.Totals.{HasRoom, IsSized, IsSmall, total_of, total_value, with_cells};
 
 use crate::cell::StatCell;
+use crate::column::StatColumn;
 use crate::kind::StatKind;
 use crate::total::Total;
 use lq_records::{Items, Memory};
@@ -45,6 +48,18 @@ impl Totals {
         add_cells(self.each.as_mut_slice(), cells);
     }
 
+    /// Adds to each statistic the cells of the marked rows, of which it has a column.
+    pub fn add_columns(&mut self, marks: &[bool], columns: &[StatColumn])
+        requires same_length { length columns.now ≡ length self.old }
+        requires room { All (HasRoom (length marks.now)) self.old }
+        requires long { All (λ column. length (column_cells column) ≡ length marks.now)
+            columns.now }
+        requires sized { All (λ column. AllByRecursion IsSized (column_cells column)) columns.now }
+        ensures { self.new ≡ with_columns marks.now self.old (map column_cells columns.now) }
+    {
+        add_columns(self.each.as_mut_slice(), marks, columns);
+    }
+
     /// The values of the statistics. The only error is that memory runs out.
     pub fn values(&self, alloc: Global) -> Result<Items<Val<'static>>, Memory>
         requires { All IsSmall self.now }
@@ -62,6 +77,18 @@ fn add_cells(totals: &mut [Total], cells: &[StatCell])
 {
     for (i, cell) in cells.iter().enumerate() {
         totals[i] = totals[i].with(*cell);
+    }
+}
+
+fn add_columns(totals: &mut [Total], marks: &[bool], columns: &[StatColumn])
+    requires same_length { length columns.now ≡ length totals.old }
+    requires room { All (HasRoom (length marks.now)) totals.old }
+    requires long { All (λ column. length (column_cells column) ≡ length marks.now) columns.now }
+    requires sized { All (λ column. AllByRecursion IsSized (column_cells column)) columns.now }
+    ensures { totals.new ≡ with_columns marks.now totals.old (map column_cells columns.now) }
+{
+    for (i, column) in columns.iter().enumerate() {
+        totals[i] = totals[i].with_column(marks, column);
     }
 }
 
