@@ -90,8 +90,8 @@ impl<'a> ServiceRow<'a> {
         }
     }
 
-    /// Whether the contacts of the service have one, which was looked for in the base that the service
-    /// is of.
+    /// Whether the contacts of the service have one, which was looked for in the base that the
+    /// service is of.
     #[inline]
     pub fn lists_contact(&self, base: &Base, contact: Option<ContactId>) -> bool
         ensures { (name : List ℕ) → IsContactNamed base.now name contact → result

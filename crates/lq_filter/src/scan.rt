@@ -35,7 +35,8 @@ pub trait Scan {
     fn number(&self, row: Self::Row, c: Col) -> Option<i128>
         ensures { IfSome result (λ number. cell self.now row c ≡ Number number) };
 
-    /// The text in a row's column, where it is borrowed as it stands. It may be None for any column.
+    /// The text in a row's column, where it is borrowed as it stands. It may be None for any
+    /// column.
     fn text(&self, row: Self::Row, c: Col) -> Option<&str>
         ensures { IfSome result (λ text. cell self.now row c ≡ Words text.now) };
 
@@ -49,9 +50,9 @@ pub trait Scan {
         None
     }
 
-    /// Keeps the marks of the first rows whose numbers in a column are as a check asks, and says how
-    /// many rows it looked at; it may stop at any row. So where many rows are tested, the column is
-    /// looked at once and not again for each.
+    /// Keeps the marks of the first rows whose numbers in a column are as a check asks, and says
+    /// how many rows it looked at; it may stop at any row. So where many rows are tested, the
+    /// column is looked at once and not again for each.
     fn keep_numbers(
         &self,
         rows: &[Self::Row],

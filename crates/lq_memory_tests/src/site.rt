@@ -42,9 +42,9 @@ fn push_numbers(
     Ok(())
 }
 
-/// A large site: hosts `h0`, `h1` and so on, and a group of all of them; services `s0`, `s1` and so
-/// on of the host `h0`; contacts `c0`, `c1` and so on, and a service `all` of the host `h1` with all
-/// of them.
+/// A large site: hosts `h0`, `h1` and so on, and a group of all of them; services `s0`, `s1` and
+/// so on of the host `h0`; contacts `c0`, `c1` and so on, and a service `all` of the host `h1`
+/// with all of them.
 pub(crate) fn large(alloc: Global) -> Result<String, AllocError> {
     let mut file = String::new(alloc);
     push_numbers(&mut file, alloc, "define host {\nhost_name h", "\n}\n")?;

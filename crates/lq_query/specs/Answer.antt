@@ -84,7 +84,8 @@ too_large = record { code = 413; text = codes "reply too large" }
 -- a body of more than 8,388,608 bytes is replaced by the refusal 413; any other has the code 200
 abbrev pub limited : Bool → List ℕ → Reply
 limited fixed16 body =
-    if nat_lt 8388608 (length body) then record { code = 413; bytes = refusal_text too_large fixed16 }
+    if nat_lt 8388608 (length body)
+    then record { code = 413; bytes = refusal_text too_large fixed16 }
     else record { code = 200; bytes = headed fixed16 body }
 
 abbrev pub answer_of : Request → State → Reply

@@ -23,7 +23,8 @@ AreTooLarge old cells =
 -- these lines follow
 pub record HasLines (old new : Writing) (lines : List (List Value)) : Type 0 where
   pub layout : new.layout ≡ old.layout
-  pub written : (before : List (List Value)) → Writes old before [] → Writes new (before ++ lines) []
+  pub written : (before : List (List Value))
+      → Writes old before [] → Writes new (before ++ lines) []
 
 -- with these lines the body is too large, whatever follows them
 abbrev pub IsTooLarge : Writing → List (List Value) → Type 0

@@ -1,5 +1,5 @@
-//! The answer to a whole query: the rows of its table at a state, line by line, or the statistics of
-//! these rows, in the form that it asks for.
+//! The answer to a whole query: the rows of its table at a state, line by line, or the statistics
+//! of these rows, in the form that it asks for.
 #![tactic(auto)]
 
 mod column;

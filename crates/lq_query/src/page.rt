@@ -109,8 +109,8 @@ impl Page<'_> {
         Ok(())
     }
 
-    /// Adds the lines of the rows that are shown. The rows are tested block by block, and none after
-    /// the last one that may be shown.
+    /// Adds the lines of the rows that are shown. The rows are tested block by block, and none
+    /// after the last one that may be shown.
     fn push_rows(
         &self,
         writer: &mut Writer,

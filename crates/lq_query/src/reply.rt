@@ -35,8 +35,8 @@ pub struct Reply {
 
 /// Answers a query that shows a column or a statistic: 200 and the line of names where the query
 /// asks for it, then a line for each row of the table that its filter chooses, or with statistics
-/// for each group of these rows, as many as its limit says. 413 and `reply too large` where the body
-/// would have more than 8,388,608 bytes. The only error is out of memory.
+/// for each group of these rows, as many as its limit says. 413 and `reply too large` where the
+/// body would have more than 8,388,608 bytes. The only error is out of memory.
 pub fn answer(alloc: Global, live: &Live, request: &Request) -> Result<Reply, Memory>
     requires cells { ShowsCells request.now }
     requires stats { All IsStat request.now.stats }

@@ -1,5 +1,5 @@
--- What the lines `Stats`, `StatsAnd`, `StatsOr` and `StatsNegate` add to a query, or why one of them
--- is refused.
+-- What the lines `Stats`, `StatsAnd`, `StatsOr` and `StatsNegate` add to a query, or why one of
+-- them is refused.
 use Rattle.std.specs.Prelude.{ℕ, ◌≡◌, ◌≢◌, ◌-◌, ◌&&◌, nat_le, nat_lt, Bool, Option, Some, None, ok_or, option_map, Result, Ok, Err}
 use Rattle.std.specs.Prelude.{List, [], ◌∷◌, ◌++◌, length, take, drop, bytes_eq, codes, if◌then◌else◌}
 use Rattle.lq_filter.specs.Trees.{height}

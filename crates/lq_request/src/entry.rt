@@ -105,8 +105,8 @@ impl Entries {
         Ok(())
     }
 
-    /// Makes the last entries one that counts: where `any`, one of their filters is enough, else all
-    /// have to hold. The header with this name asks for it. On an error nothing is said of the
+    /// Makes the last entries one that counts: where `any`, one of their filters is enough, else
+    /// all have to hold. The header with this name asks for it. On an error nothing is said of the
     /// entries, since the query is given up.
     pub fn join(&mut self, alloc: Global, name: &str, any: bool, count: u64) -> Result<(), Fault>
         ensures { Leaves result self.new (with_joined name.now any self.old count) }

@@ -101,8 +101,8 @@ impl Groups {
         requires key { length self.old.next ≡ self.old.spec.keys }
         requires cells { AllZip IsCellOf self.old.spec.entries cells.now }
         requires few { self.old.count < 2 ^ 40 }
-        ensures groups { (rows : List Row) → AreGroupsOf self.old rows → OnOk result
-            (AreGroupsOf self.new (rows ++ record { key = self.old.next; cells = cells.now } ∷ [])) }
+        ensures groups { (rows : List Row) → AreGroupsOf self.old rows → OnOk result (AreGroupsOf
+            self.new (rows ++ record { key = self.old.next; cells = cells.now } ∷ [])) }
         ensures spec { self.new.spec ≡ self.old.spec }
         ensures next { OnOk result (self.new.next ≡ []) }
         ensures count { OnOk result (self.new.count ≡ self.old.count + 1) }

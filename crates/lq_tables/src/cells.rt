@@ -190,8 +190,8 @@ impl<'a> RowCells<'a> {
     }
 }
 
-/// The number of one cell of a row, as `number` of `RowCells` gives it. Where few cells of a row are
-/// looked at it takes less: it finds alone what the column is about.
+/// The number of one cell of a row, as `number` of `RowCells` gives it. Where few cells of a row
+/// are looked at it takes less: it finds alone what the column is about.
 #[inline]
 pub fn row_number(live: &Live, row: Row, c: Col) -> Option<i128>
     ensures value { IfSome result (λ number. cell_of live.now.state row c ≡ Number number) }
@@ -212,8 +212,8 @@ pub fn row_number(live: &Live, row: Row, c: Col) -> Option<i128>
     }
 }
 
-/// The number of a column of hosts where the row is a host of their table, as `row_number` gives it;
-/// None for any other row. A loop over that table's rows has no other row to look for.
+/// The number of a column of hosts where the row is a host of their table, as `row_number` gives
+/// it; None for any other row. A loop over that table's rows has no other row to look for.
 #[inline(always)]
 pub fn host_number(live: &Live, row: Row, column: HostColumn) -> Option<i128>
     ensures { IfSome result (λ number.

@@ -193,8 +193,8 @@ pub(crate) fn asked(
 }
 
 impl Site {
-    /// The site of an object file, whose commands name the objects of another one. It is in a box, so
-    /// that how its many parts are dropped is proved once.
+    /// The site of an object file, whose commands name the objects of another one. It is in a box,
+    /// so that how its many parts are dropped is proved once.
     pub(crate) fn open(alloc: Global, named: &[u8], objects: &[u8]) -> Result<Box<Self>, Fail> {
         let named = base_of(alloc, named)?;
         let live = live_of(alloc, objects)?;
