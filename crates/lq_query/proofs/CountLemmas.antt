@@ -1,10 +1,11 @@
 -- Rows that are counted, one after another.
-use Rattle.std.proofs.Common.{◌≡◌, ◌≢◌, ℕ, zero, suc, ◌+◌, ◌<◌, ◌≤◌, ◌^◌, nat_le, Bool, true, false, List, [], ◌∷◌, ◌++◌, length, map, min, take, drop, get_or, unsigned_abs, ℤ, pos, if◌then◌else◌, leb-true, refl, subst, sym, ap, ◌∙◌, append_assoc, arith, length-append}
+use Rattle.std.proofs.Common.{◌≡◌, ◌≢◌, ℕ, zero, suc, ◌+◌, ◌<◌, ◌≤◌, ◌^◌, nat_le, Bool, true, false, List, [], ◌∷◌, ◌++◌, length, map, min, take, drop, get_or, unsigned_abs, ℤ, pos, cond, count_by, if◌then◌else◌, leb-true, refl, subst, sym, ap, ◌∙◌, append_assoc, arith, length-append}
 use Rattle.std.proofs.Math.Logic.{⊎_elim}
 use Rattle.std.proofs.Math.Seq.{get_or-append_seam}
 use Rattle.std.proofs.lemmas.Bool.{cases_Bool}
 use Rattle.std.proofs.lemmas.List.{append-nil, drop_more, get_or-map, get_or-take, length-map, length-take, map-append, take-map, take_more}
-use Rattle.std.specs.List.{AllZip, list_any}
+use Rattle.std.proofs.lemmas.List.Sums.{sum_by-cons}
+use Rattle.std.specs.List.{AllByRecursion, AllZip, list_any}
 use Rattle.std.specs.Prelude.{All, Option, None, Some, IfSome, slice_get}
 use Rattle.lq_schema.specs.Value.{Value, shown, Number, Millionths, Words, Texts, Numbers, Pairs}
 use Rattle.lq_schema.specs.declared.columns.Col.{Col}
@@ -13,6 +14,7 @@ use Rattle.lq_filter.specs.declared.header.Header.{Header}
 use Rattle.lq_request.specs.Stats.{IsStat}
 use Rattle.lq_request.specs.declared.entry.StatEntry.{StatEntry}
 use Rattle.lq_request.specs.declared.entry.StatEntry.TheVariants as entry
+use Rattle.lq_stats.specs.Columns.{IsColumnOf, cells_at, marked_rows}
 use Rattle.lq_stats.specs.Grouped.{AreGroupsOf, Grouped}
 use Rattle.lq_stats.specs.Groups.{IsCellOf, Key, Line, keys_of, lines_of, rows_of, shown_line, values_from}
 use Rattle.lq_stats.specs.declared.spec.StatLine.{StatLine}
@@ -24,7 +26,7 @@ use Rattle.lq_stats.specs.declared.cell.StatCell.TheVariants as cell
 use Rattle.lq_stats.specs.declared.kind.StatKind.{StatKind}
 use Rattle.lq_stats.specs.declared.kind.StatKind.TheVariants as kind
 use Rattle.lq_tables.specs.declared.row.Row.{Row}
-use Rattle.lq_query.specs.Counting.{Counts, cells_at, counted_from}
+use Rattle.lq_query.specs.Counting.{Counts, counted_from}
 use Rattle.lq_query.specs.Groups.{number_cell, stat_cell, stat_kind, stats_row}
 use Rattle.lq_query.specs.Rows.{chosen, row_cells}
 
@@ -119,11 +121,76 @@ is_cell : (asked : StatEntry) → IsStat asked → (row : Col → Value) → IsC
 is_cell (entry.Count headers) is row = tt
 is_cell (entry.Over over column) is row = over_cell over is.0 (number_cell (row column)) (sized (row column))
 
--- each statistic takes a cell that is one of its kind
-pub are_cells : (stats : List StatEntry) → All IsStat stats → (row : Col → Value) → AllZip IsCellOf (map stat_kind stats) (map (stat_cell row) stats)
-are_cells [] all row = tt
-are_cells (entry ∷ stats) all row =
-    (is_cell entry (all 0 entry (omega arith)) row, are_cells stats (λ k d below. all (suc k) d (omega (arith, below))) row)
+cells_are : (kind : StatKind) (cell_of_row : Row → StatCell) → ((row : Row) → IsCellOf kind (cell_of_row row)) → (rows : List Row) → IsColumnOf (length rows) kind (map cell_of_row rows)
+cells_are kind cell_of_row each rows = (length-map rows cell_of_row, all rows)
+  where
+    all : (rows : List Row) → AllByRecursion (IsCellOf kind) (map cell_of_row rows)
+    all [] = tt
+    all (row ∷ rows) = (each row, all rows)
+
+-- each statistic has a column of cells of its kind
+pub are_columns : (row_of : Row → (Col → Value)) (rows : List Row) (stats : List StatEntry) → All IsStat stats
+    → AllZip (IsColumnOf (length rows)) (map stat_kind stats) (map (λ (entry : StatEntry). map (λ (each : Row). stat_cell (row_of each) entry) rows) stats)
+are_columns row_of rows [] all = tt
+are_columns row_of rows (entry ∷ stats) all = (
+  cells_are (stat_kind entry) (λ (each : Row). stat_cell (row_of each) entry) (λ (each : Row). is_cell entry (all 0 entry (omega arith)) (row_of each)) rows,
+  are_columns row_of rows stats (λ k d below. all (suc k) d (omega (arith, below))),
+)
+
+-- a cell of each column is one of each statistic
+one_of_each : (count place : ℕ) → place < count → (kinds : List StatKind) (columns : List (List StatCell)) → AllZip (IsColumnOf count) kinds columns → AllZip IsCellOf kinds (cells_at place columns)
+one_of_each count place within [] [] are = tt
+one_of_each count place within [] (column ∷ columns) are = absurd are
+one_of_each count place within (kind ∷ kinds) [] are = absurd are
+one_of_each count place within (kind ∷ kinds) (column ∷ columns) are =
+    let has = one_at kind place column (omega (arith, within, are.0.0)) are.0.1 in
+    rw has.1 (has.2, one_of_each count place within kinds columns are.1)
+  where
+    one_at : (kind : StatKind) (place : ℕ) (column : List StatCell) → place < length column → AllByRecursion (IsCellOf kind) column → (taken : StatCell) × (slice_get column place ≡ Some taken) × IsCellOf kind taken
+    one_at kind place [] below are = absurd (omega (arith, below))
+    one_at kind zero (first ∷ column) below are = (first, refl, are.0)
+    one_at kind (suc place) (first ∷ column) below are = one_at kind place column (omega (arith, below)) are.1
+
+pub cells_of_each : (count : ℕ) (kinds : List StatKind) (columns : List (List StatCell)) → AllZip (IsColumnOf count) kinds columns → (place : ℕ) → place < count → AllZip IsCellOf kinds (cells_at place columns)
+cells_of_each count kinds columns are place within = one_of_each count place within kinds columns are
+
+-- ---- without columns
+
+-- the marked rows are those that are counted, and there are as many as marks
+marked_counted : (key : Row → Key) → ((row : Row) → key row ≡ []) → (columns : List (List StatCell)) (place : ℕ) (marks : List Bool) (rows : List Row) → length marks ≡ length rows
+    → marked_rows place marks columns ≡ counted_from key place marks rows columns
+marked_counted key none columns place [] rows same = refl
+marked_counted key none columns place (mark ∷ marks) [] same = absurd (omega (arith, same))
+marked_counted key none columns place (true ∷ marks) (row ∷ rows) same =
+    let one : Key → StatsRow = λ each. record { key = each; cells = cells_at place columns } in
+    ap (λ each. one each ∷ marked_rows (suc place) marks columns) (sym (none row))
+    ∙ ap (λ later. one (key row) ∷ later) (marked_counted key none columns (suc place) marks rows (omega (arith, same)))
+marked_counted key none columns place (false ∷ marks) (row ∷ rows) same = marked_counted key none columns (suc place) marks rows (omega (arith, same))
+
+as_many_marked : (columns : List (List StatCell)) (place : ℕ) (marks : List Bool) → length (marked_rows place marks columns) ≡ count_by (λ mark. mark) marks
+as_many_marked columns place [] = refl
+as_many_marked columns place (true ∷ marks) =
+    let more = sum_by-cons (λ mark. cond mark 1 0) true marks in
+    let later = as_many_marked columns (suc place) marks in
+    omega (arith, later) ∙ sym more
+as_many_marked columns place (false ∷ marks) = as_many_marked columns (suc place) marks
+
+-- without columns no row has a key
+pub no_key : (columns : List Col) → length columns ≡ 0 → (row : Col → Value) → row_cells columns row ≡ []
+no_key [] none row = refl
+no_key (column ∷ columns) none row = absurd (omega (arith, none))
+
+pub counts_marked : (old new : Grouped) (key : Row → Key) → ((row : Row) → key row ≡ []) → (columns : List (List StatCell)) (marks : List Bool) (rows : List Row) → length marks ≡ length rows
+    → new.spec ≡ old.spec → new.next ≡ [] → new.count ≡ old.count + count_by (λ mark. mark) marks
+    → ((before : List StatsRow) → AreGroupsOf old before → AreGroupsOf new (before ++ marked_rows 0 marks columns)) → Counts old new (counted_from key 0 marks rows columns)
+counts_marked old new key none columns marks rows same spec next count groups =
+    subst (Counts old new) (marked_counted key none columns 0 marks rows same)
+    (record {
+      spec = spec;
+      next = next;
+      count = count ∙ ap (λ more. old.count + more) (sym (as_many_marked columns 0 marks));
+      groups = groups;
+    })
 
 -- ---- the rows that are counted
 
@@ -203,16 +270,6 @@ columns_more column_of stats place asked old column within before is made =
     ∙ ap (λ (last : List StatCell). map column_of (take place stats) ++ last ∷ []) (made ∙ ap column_of is)
     ∙ sym (map-append column_of (take place stats) (get_or stats place asked ∷ []))
     ∙ ap (map column_of) (sym (take_more stats place asked within))
-
-pub some_at : (xs : List StatCell) (k : ℕ) (x : StatCell) → k < length xs → x ≡ get_or xs k x → slice_get xs k ≡ Some x
-some_at [] k x within is = absurd (omega (arith, within))
-some_at (y ∷ xs) zero x within is = ap Some (sym is)
-some_at (y ∷ xs) (suc k) x within is = some_at xs k x (omega (arith, within)) is
-
-pub none_at : (xs : List StatCell) (k : ℕ) → length xs ≤ k → slice_get xs k ≡ None
-none_at [] k behind = refl
-none_at (x ∷ xs) zero behind = absurd (omega (arith, behind))
-none_at (x ∷ xs) (suc k) behind = none_at xs k (omega (arith, behind))
 
 -- ---- lines of groups
 

@@ -1,7 +1,8 @@
 -- Rows that are counted, block by block.
-use Rattle.std.specs.Prelude.{◌≡◌, ◌+◌, ℕ, suc, Bool, List, [], ◌∷◌, ◌++◌, filter_map, length, slice_get, if◌then◌else◌}
+use Rattle.std.specs.Prelude.{◌≡◌, ◌+◌, ℕ, suc, Bool, List, [], ◌∷◌, ◌++◌, length, if◌then◌else◌}
 use Rattle.lq_request.specs.declared.entry.StatEntry.{StatEntry}
 use Rattle.lq_request.specs.declared.entry.StatEntry.TheVariants as entry
+use Rattle.lq_stats.specs.Columns.{cells_at}
 use Rattle.lq_stats.specs.Grouped.{AreGroupsOf, Grouped}
 use Rattle.lq_stats.specs.Groups.{Key}
 use Rattle.lq_stats.specs.Groups.{Row as StatsRow}
@@ -14,10 +15,6 @@ use Rattle.lq_query.specs.declared.entry.ReadyEntry.TheVariants as ready
 abbrev pub entry_of : ReadyEntry → StatEntry
 entry_of (ready.Count filter) = entry.Count filter
 entry_of (ready.Over kind column) = entry.Over kind column
-
--- of each column of cells the one in a place
-abbrev pub cells_at : ℕ → List (List StatCell) → List StatCell
-cells_at place columns = filter_map (λ (column : List StatCell). slice_get column place) columns
 
 -- the rows were counted beside those before, and no key is begun
 pub record Counts (old new : Grouped) (rows : List StatsRow) : Type 0 where

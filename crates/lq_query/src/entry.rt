@@ -2,6 +2,7 @@ ghost use Rattle.std.specs.Prelude.{◌≡◌, IfOk, map};
 ghost use Rattle.lq_filter.specs.Trees.{holds, truth_on};
 ghost use Rattle.lq_filter.specs.declared.header.Header.{Header};
 ghost use Rattle.lq_schema.specs.Value.{Number};
+ghost use Rattle.lq_stats.specs.Columns.{column_cells};
 ghost use Rattle.lq_stats.specs.declared.cell.StatCell.TheVariants as cell;
 ghost use Rattle.lq_tables.specs.Cells.{cell_of};
 ghost use Rattle.lq_query.specs.Counting.{entry_of};
@@ -13,7 +14,7 @@ use lq_live::Live;
 use lq_records::Memory;
 use lq_request::StatEntry;
 use lq_schema::{Col, Val};
-use lq_stats::{StatCell, StatKind};
+use lq_stats::{StatColumn, StatKind};
 use lq_tables::{Row, RowCells, row_number};
 use std::alloc::Global;
 
@@ -28,13 +29,8 @@ pub enum ReadyEntry<'f> {
 
 impl ReadyEntry<'_> {
     /// What the statistic takes of each of some rows. The only error is out of memory.
-    pub fn cells(
-        &mut self,
-        alloc: Global,
-        live: &Live,
-        rows: &[Row],
-    ) -> Result<Vec<StatCell>, Memory>
-        ensures cells { IfOk result (λ cells. cells.items
+    pub fn cells(&mut self, alloc: Global, live: &Live, rows: &[Row]) -> Result<StatColumn, Memory>
+        ensures cells { IfOk result (λ cells. column_cells cells
             ≡ map (λ row. stat_cell (cell_of live.now.state row) (entry_of self.old)) rows.now) }
         ensures same { entry_of self.new ≡ entry_of self.old }
     {
@@ -71,45 +67,31 @@ fn counted_cells(
     filter: &mut ReadyFilter<'_>,
     live: &Live,
     rows: &[Row],
-) -> Result<Vec<StatCell>, Memory>
-    ensures cells { IfOk result (λ cells. cells.items
+) -> Result<StatColumn, Memory>
+    ensures cells { IfOk result (λ cells. column_cells cells
         ≡ map (λ row. cell.Counted (holds (truth_on (cell_of live.now.state row)) filter.old))
         rows.now) }
     ensures same { filter.new ≡ filter.old }
 {
-    let marks = marks_of(alloc, filter, live, rows)?;
-    counted(alloc, &marks)
-}
-
-fn counted(alloc: Global, marks: &[bool]) -> Result<Vec<StatCell>, Memory>
-    ensures { IfOk result (λ cells. cells.items ≡ map cell.Counted marks.now) }
-{
-    let mut cells = Vec::with_capacity(alloc, marks.len())?;
-    for mark in marks {
-        cells.push(StatCell::Counted(*mark))?;
-    }
-    Ok(cells)
+    Ok(StatColumn::Marks(marks_of(alloc, filter, live, rows)?))
 }
 
 /// The number that each row has in a column.
-fn number_cells(
-    alloc: Global,
-    live: &Live,
-    rows: &[Row],
-    column: Col,
-) -> Result<Vec<StatCell>, Memory>
-    ensures { IfOk result (λ cells. cells.items
+fn number_cells(alloc: Global, live: &Live, rows: &[Row], column: Col) -> Result<StatColumn, Memory>
+    ensures { IfOk result (λ cells. column_cells cells
         ≡ map (λ row. number_cell (cell_of live.now.state row column)) rows.now) }
 {
-    let mut cells = Vec::with_capacity(alloc, rows.len())?;
+    let mut numbers = Vec::with_capacity(alloc, rows.len())?;
     for row in rows {
-        cells.push(cell_number(alloc, live, *row, column)?)?;
+        numbers.push(row_cell(alloc, live, *row, column)?)?;
     }
-    Ok(cells)
+    Ok(StatColumn::Numbers(numbers))
 }
 
-fn cell_number(alloc: Global, live: &Live, row: Row, column: Col) -> Result<StatCell, Memory>
-    ensures { IfOk result (λ cell. cell ≡ number_cell (cell_of live.now.state row column)) }
+/// The number that a statistic takes of a row.
+fn row_cell(alloc: Global, live: &Live, row: Row, column: Col) -> Result<i128, Memory>
+    ensures { IfOk result (λ number.
+        cell.Number number ≡ number_cell (cell_of live.now.state row column)) }
 {
     match row_number(live, row, column) {
         Some(number) => Ok(sized(number)),
@@ -119,21 +101,22 @@ fn cell_number(alloc: Global, live: &Live, row: Row, column: Col) -> Result<Stat
 
 /// The same for a number that isn't found without a value, as that of a counter.
 #[inline(never)]
-fn value_number(alloc: Global, live: &Live, row: Row, column: Col) -> Result<StatCell, Memory>
-    ensures { IfOk result (λ cell. cell ≡ number_cell (cell_of live.now.state row column)) }
+fn value_number(alloc: Global, live: &Live, row: Row, column: Col) -> Result<i128, Memory>
+    ensures { IfOk result (λ number.
+        cell.Number number ≡ number_cell (cell_of live.now.state row column)) }
 {
     match RowCells::of(live, row).value(alloc, column)? {
         Val::Int(number) => Ok(sized(number)),
-        _ => Ok(StatCell::Number(0)),
+        _ => Ok(0),
     }
 }
 
-fn sized(number: i128) -> StatCell
-    ensures { result ≡ number_cell (Number number) }
+fn sized(number: i128) -> i128
+    ensures { cell.Number result ≡ number_cell (Number number) }
 {
     if number.unsigned_abs() <= 18_446_744_073_709_551_616 {
-        StatCell::Number(number)
+        number
     } else {
-        StatCell::Number(0)
+        0
     }
 }

@@ -2,11 +2,12 @@ ghost use Rattle.std.specs.Prelude.{◌≡◌, ℕ, ◌+◌, ◌<◌, ◌≤◌,
 ghost use Rattle.std.specs.List.{AllByRecursion, AllZip};
 ghost use Rattle.lq_output.specs.declared.error.WriteErr.TheVariants.{TooLarge};
 ghost use Rattle.lq_request.specs.Stats.{IsStat};
+ghost use Rattle.lq_stats.specs.Columns.{IsColumnOf, cells_at, column_cells};
 ghost use Rattle.lq_stats.specs.Grouped.{AreGroupsOf};
 ghost use Rattle.lq_stats.specs.Groups.{IsCellOf, shown_line};
 ghost use Rattle.lq_tables.specs.Cells.{cell_of};
 ghost use Rattle.lq_query.specs.Answer.{first_lines};
-ghost use Rattle.lq_query.specs.Counting.{Counts, cells_at, counted_from, entry_of};
+ghost use Rattle.lq_query.specs.Counting.{Counts, counted_from, entry_of};
 ghost use Rattle.lq_query.specs.Groups.{group_lines, line_cells, stat_cell, stat_kind, stats_row, stats_spec};
 ghost use Rattle.lq_query.specs.Lines.{HasLines, IsTooLarge, marked};
 ghost use Rattle.lq_query.specs.Rows.{chosen, row_cells};
@@ -19,7 +20,7 @@ use lq_filter::ReadyFilter;
 use lq_output::{WriteErr, Writer};
 use lq_records::{Items, Memory};
 use lq_request::{Request, StatEntry};
-use lq_stats::{Groups, StatCell, StatKind, StatLine, StatsSpec};
+use lq_stats::{Groups, StatCell, StatColumn, StatKind, StatLine, StatsSpec};
 use lq_tables::{Row, RowCells};
 use std::alloc::{AllocError, Global};
 
@@ -127,12 +128,8 @@ impl Page<'_> {
     }
 
     /// What each entry takes of each row of a block.
-    fn cells(
-        &self,
-        entries: &mut [ReadyEntry<'_>],
-        rows: &[Row],
-    ) -> Result<Vec<Vec<StatCell>>, Memory>
-        ensures cells { IfOk result (λ cells. map (λ column. column.items) cells.items
+    fn cells(&self, entries: &mut [ReadyEntry<'_>], rows: &[Row]) -> Result<Vec<StatColumn>, Memory>
+        ensures cells { IfOk result (λ cells. map column_cells cells.items
             ≡ map (λ entry. map (λ row. stat_cell (cell_of self.now.live.now.state row) entry)
             rows.now) (map entry_of entries.old)) }
         ensures same { map entry_of entries.new ≡ map entry_of entries.old }
@@ -144,23 +141,49 @@ impl Page<'_> {
         Ok(cells)
     }
 
-    /// Counts the rows that are marked.
+    /// Counts the rows that are marked. Without columns they are of one group, and each statistic
+    /// takes its cells of all of them at once.
     fn count_marked(
         &self,
         groups: &mut Groups,
         rows: &[Row],
         marks: &[bool],
-        cells: &[Vec<StatCell>],
+        cells: &[StatColumn],
+    ) -> Result<(), Memory>
+        requires next { groups.old.next ≡ [] }
+        requires keys { groups.old.spec.keys ≡ length self.now.columns.now }
+        requires marks { length marks.now ≡ length rows.now }
+        requires taken { AllZip (IsColumnOf (length rows.now)) groups.old.spec.entries
+            (map column_cells cells.now) }
+        requires few { groups.old.count + length rows.now ≤ 2 ^ 40 }
+        ensures { OnOk result (Counts groups.old groups.new (counted_from
+            (λ row. row_cells self.now.columns.now (cell_of self.now.live.now.state row))
+            0 marks.now rows.now (map column_cells cells.now))) }
+    {
+        if self.columns.is_empty() {
+            groups.take_marked(marks, cells);
+            return Ok(());
+        }
+        self.count_each(groups, rows, marks, cells)
+    }
+
+    /// The same row by row.
+    fn count_each(
+        &self,
+        groups: &mut Groups,
+        rows: &[Row],
+        marks: &[bool],
+        cells: &[StatColumn],
     ) -> Result<(), Memory>
         requires next { groups.old.next ≡ [] }
         requires keys { groups.old.spec.keys ≡ length self.now.columns.now }
         requires marks { length marks.now ≡ length rows.now }
         requires taken { (place : ℕ) → place < length rows.now → AllZip IsCellOf
-            groups.old.spec.entries (cells_at place (map (λ column. column.items) cells.now)) }
+            groups.old.spec.entries (cells_at place (map column_cells cells.now)) }
         requires few { groups.old.count + length rows.now ≤ 2 ^ 40 }
         ensures { OnOk result (Counts groups.old groups.new (counted_from
             (λ row. row_cells self.now.columns.now (cell_of self.now.live.now.state row))
-            0 marks.now rows.now (map (λ column. column.items) cells.now))) }
+            0 marks.now rows.now (map column_cells cells.now))) }
     {
         let mut taken = Vec::with_capacity(self.alloc, cells.len())?;
         for place in 0..rows.len() {
@@ -193,18 +216,14 @@ impl Page<'_> {
 }
 
 /// The cells in a place, one of each column.
-fn take_cells(
-    columns: &[Vec<StatCell>],
-    place: usize,
-    taken: &mut Vec<StatCell>,
-) -> Result<(), Memory>
+fn take_cells(columns: &[StatColumn], place: usize, taken: &mut Vec<StatCell>) -> Result<(), Memory>
     ensures { OnOk result
-        (taken.new.items ≡ cells_at place (map (λ column. column.items) columns.now)) }
+        (taken.new.items ≡ cells_at place (map column_cells columns.now)) }
 {
     taken.clear();
     for column in columns {
         if let Some(cell) = column.get(place) {
-            taken.push(*cell)?;
+            taken.push(cell)?;
         }
     }
     Ok(())

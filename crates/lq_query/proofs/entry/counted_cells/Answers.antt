@@ -1,5 +1,4 @@
 use Rattle.std.proofs.Common.{◌∙◌, ap, map}
-use Rattle.std.proofs.lemmas.Result.{IfOk-weaker}
 use Rattle.lq_filter.specs.Trees.{holds, truth_on}
 use Rattle.lq_stats.specs.declared.cell.StatCell.TheVariants as cell
 use Rattle.lq_tables.specs.Cells.{cell_of}
@@ -10,5 +9,4 @@ use Rattle.lq_query.proofs.entry.counted_cells.Goals as goal
 pub returns-clause-cells : goal.returns-clause-cells
 returns-clause-cells c =
     let chosen = λ (row : Row). holds (truth_on (cell_of c.args.live.now.state row)) c.args.filter.now in
-    IfOk-weaker c.counted.result _ _
-    (λ cells is. is ∙ ap (map cell.Counted) (c.deref.ensures.value ∙ c.in_ok-marks.ensures.marks) ∙ map-map cell.Counted chosen c.args.rows.now) c.counted.ensures
+    ap (map cell.Counted) c.in_ok-marks_of.ensures.marks ∙ map-map cell.Counted chosen c.args.rows.now

@@ -3,6 +3,7 @@ use Rattle.std.proofs.Math.Seq.{map-set_same}
 use Rattle.std.proofs.lemmas.List.{get_or-map, length-map, map-append}
 use Rattle.lq_request.specs.declared.entry.StatEntry.{StatEntry}
 use Rattle.lq_stats.specs.declared.cell.StatCell.{StatCell}
+use Rattle.lq_stats.specs.Columns.{column_cells}
 use Rattle.lq_tables.specs.Cells.{cell_of}
 use Rattle.lq_tables.specs.declared.row.Row.{Row}
 use Rattle.lq_query.specs.Counting.{entry_of}
@@ -24,7 +25,7 @@ loop-place-preserved c =
     ∙ ap (λ (those : List StatEntry). get_or those place (entry_of item)) c.loop-place.invariant.same in
     record {
       same = map-set_same entry_of entries place c.cells.new.self other c.cells.ensures.same ∙ c.loop-place.invariant.same;
-      cells = ap (map (λ column. column.items)) c.in_ok-push.ensures.items
-          ∙ map-append (λ column. column.items) c.loop-place.cells.items _
+      cells = ap (map column_cells) c.in_ok-push.ensures.items
+          ∙ map-append column_cells c.loop-place.cells.items _
           ∙ columns_more column_of stats place (entry_of item) _ _ within c.loop-place.invariant.cells asked c.in_ok-cells-2.ensures.cells;
     }

@@ -1,20 +1,20 @@
-use Rattle.std.proofs.Common.{Bool, List, map, get_or, subst, sym, ap, ◌∙◌}
+use Rattle.std.proofs.Common.{Bool, List, length, map, subst, sym, ap, ◌∙◌}
 use Rattle.std.proofs.lemmas.Result.{on_ok_weaker}
 use Rattle.std.specs.List.{AllZip}
 use Rattle.lq_filter.specs.Trees.{holds, truth_on}
 use Rattle.lq_request.specs.declared.entry.StatEntry.{StatEntry}
-use Rattle.lq_stats.specs.Groups.{IsCellOf, Key}
+use Rattle.lq_stats.specs.Columns.{IsColumnOf, column_cells}
+use Rattle.lq_stats.specs.Groups.{Key}
 use Rattle.lq_stats.specs.Groups.{Row as StatsRow}
 use Rattle.lq_stats.specs.declared.cell.StatCell.{StatCell}
 use Rattle.lq_stats.specs.declared.kind.StatKind.{StatKind}
 use Rattle.lq_stats.specs.declared.spec.StatsSpec.{StatsSpec}
 use Rattle.lq_tables.specs.Cells.{cell_of}
 use Rattle.lq_tables.specs.declared.row.Row.{Row}
-use Rattle.lq_tables.specs.declared.row.Row.TheVariants.{Host}
-use Rattle.lq_query.specs.Counting.{Counts, cells_at, counted_from, entry_of}
+use Rattle.lq_query.specs.Counting.{Counts, counted_from, entry_of}
 use Rattle.lq_query.specs.Groups.{stat_cell, stat_kind}
 use Rattle.lq_query.specs.Rows.{row_cells}
-use Rattle.lq_query.proofs.CountLemmas.{are_cells, cells_of_row, chosen_counted, counts_none, none_counted}
+use Rattle.lq_query.proofs.CountLemmas.{are_columns, chosen_counted, counts_none, none_counted}
 use Rattle.lq_query.proofs.page.Page.count_block.Goals as goal
 
 pub returns-then-not-has_mark-clause-counts : goal.returns-then-not-has_mark-clause-counts
@@ -31,15 +31,14 @@ returns-then-not-has_mark-clause-counts c =
     (counts_none c.args.groups.now c.requires.next)
 
 pub count_marked-requires-clause-taken : goal.count_marked-requires-clause-taken
-count_marked-requires-clause-taken c = λ place below.
+count_marked-requires-clause-taken c =
     let row_of = cell_of c.args.self.now.live.now.state in
+    let count = length c.args.rows.now in
     let stats : List StatEntry = map entry_of c.args.tally.now.entries.items in
-    let row : Row = Host (record { 0 = 0 }) in
-    let cells = ap (map (λ column. column.items)) c.deref-3.ensures.value ∙ c.in_ok-cells.ensures.cells
+    let cells = ap (map column_cells) c.deref-3.ensures.value ∙ c.in_ok-cells.ensures.cells
     ∙ ap (λ entries. map (λ (entry : StatEntry). map (λ (each : Row). stat_cell (row_of each) entry) c.args.rows.now) (map entry_of entries)) c.deref_mut.ensures.value in
-    let taken = ap (cells_at place) cells ∙ cells_of_row row_of stats c.args.rows.now place row below in
-    subst (λ (kinds : List StatKind). AllZip IsCellOf kinds (cells_at place (map (λ column. column.items) c.deref-3.result.now))) (sym (ap (λ (spec : StatsSpec). spec.entries) c.requires.spec))
-    (subst (λ (those : List StatCell). AllZip IsCellOf (map stat_kind stats) those) (sym taken) (are_cells stats c.requires.stats (row_of (get_or c.args.rows.now place row))))
+    subst (λ (kinds : List StatKind). AllZip (IsColumnOf count) kinds (map column_cells c.deref-3.result.now)) (sym (ap (λ (spec : StatsSpec). spec.entries) c.requires.spec))
+    (subst (λ (those : List (List StatCell)). AllZip (IsColumnOf count) (map stat_kind stats) those) (sym cells) (are_columns row_of c.args.rows.now stats c.requires.stats))
 
 pub returns-clause-counts : goal.returns-clause-counts
 returns-clause-counts c =
@@ -47,11 +46,11 @@ returns-clause-counts c =
     let columns = c.args.self.now.columns.now in
     let stats : List StatEntry = map entry_of c.args.tally.now.entries.items in
     let key : Row → Key = λ row. row_cells columns (row_of row) in
-    let cells = ap (map (λ column. column.items)) c.deref-3.ensures.value ∙ c.in_ok-cells.ensures.cells
+    let cells = ap (map column_cells) c.deref-3.ensures.value ∙ c.in_ok-cells.ensures.cells
     ∙ ap (λ entries. map (λ (entry : StatEntry). map (λ (each : Row). stat_cell (row_of each) entry) c.args.rows.now) (map entry_of entries)) c.deref_mut.ensures.value in
     on_ok_weaker c.count_marked.result
     (subst (λ (rows : List StatsRow). Counts c.args.groups.now c.count_marked.new.groups rows)
-    (ap (λ (marks : List Bool). counted_from key 0 marks c.args.rows.now (map (λ column. column.items) c.deref-3.result.now)) (c.deref-2.ensures.value ∙ c.in_ok-marks.ensures.marks)
+    (ap (λ (marks : List Bool). counted_from key 0 marks c.args.rows.now (map column_cells c.deref-3.result.now)) (c.deref-2.ensures.value ∙ c.in_ok-marks.ensures.marks)
     ∙ ap (λ (those : List (List StatCell)). counted_from key 0 (map (λ (each : Row). holds (truth_on (row_of each)) c.args.tally.now.filter) c.args.rows.now) c.args.rows.now those) cells
     ∙ chosen_counted columns stats c.args.tally.now.filter row_of c.args.rows.now))
     c.count_marked.ensures

@@ -3,14 +3,15 @@ use Rattle.std.proofs.lemmas.List.{append-nil, length-take, take_all}
 use Rattle.lq_stats.specs.Groups.{Key}
 use Rattle.lq_stats.specs.declared.cell.StatCell.{StatCell}
 use Rattle.lq_stats.specs.Groups.{Row as StatsRow}
+use Rattle.lq_stats.specs.Columns.{column_cells}
 use Rattle.lq_tables.specs.Cells.{cell_of}
 use Rattle.lq_tables.specs.declared.row.Row.{Row}
 use Rattle.lq_tables.specs.declared.row.Row.TheVariants.{Host}
 use Rattle.lq_query.specs.Counting.{Counts, counted_from}
 use Rattle.lq_query.specs.Rows.{row_cells}
 use Rattle.lq_query.proofs.CountLemmas.{counted_more, counts_then, few_counted}
-use Rattle.lq_query.proofs.page.Page.count_marked.Goals.{then-marks-place+in_ok-take_cells+in_ok-count_row, else-marks-place}
-use Rattle.lq_query.proofs.page.Page.count_marked.Goals as goal
+use Rattle.lq_query.proofs.page.Page.count_each.Goals.{then-marks-place+in_ok-take_cells+in_ok-count_row, else-marks-place}
+use Rattle.lq_query.proofs.page.Page.count_each.Goals as goal
 
 pub count_row-requires-clause-few : goal.count_row-requires-clause-few
 count_row-requires-clause-few c =
@@ -21,13 +22,13 @@ count_row-requires-clause-few c =
       c.requires.few,
       c.loop-place-test.true,
       length-take c.loop-place.place c.args.rows.now,
-      few_counted key (map (λ column. column.items) c.args.cells.now) 0 (take c.loop-place.place c.args.marks.now) (take c.loop-place.place c.args.rows.now),
+      few_counted key (map column_cells c.args.cells.now) 0 (take c.loop-place.place c.args.marks.now) (take c.loop-place.place c.args.rows.now),
     )
 
 pub loop-place-preserved : goal.loop-place-preserved
 loop-place-preserved c =
     let key : Row → Key = λ row. row_cells c.args.self.now.columns.now (cell_of c.args.self.now.live.now.state row) in
-    let columns : List (List StatCell) = map (λ column. column.items) c.args.cells.now in
+    let columns : List (List StatCell) = map column_cells c.args.cells.now in
     let row : Row = Host (record { 0 = 0 }) in
     let more = counted_more key columns c.args.marks.now c.args.rows.now c.loop-place.place row c.requires.marks c.loop-place-test.true in
     elim c.if-marks-place.branch [
@@ -53,7 +54,7 @@ loop-place-preserved c =
 pub returns : goal.returns
 returns c =
     let key : Row → Key = λ row. row_cells c.args.self.now.columns.now (cell_of c.args.self.now.live.now.state row) in
-    let columns : List (List StatCell) = map (λ column. column.items) c.args.cells.now in
+    let columns : List (List StatCell) = map column_cells c.args.cells.now in
     let all = c.loop-place-test.false in
     subst (λ (rows : List StatsRow). Counts c.args.groups.now c.loop-place.groups rows)
     (ap (λ (marks : List Bool). counted_from key 0 marks (take c.loop-place.place c.args.rows.now) columns) (take_all c.loop-place.place c.args.marks.now (omega (arith, all, c.requires.marks)))
