@@ -73,7 +73,8 @@ fn counted_cells(
         rows.now) }
     ensures same { filter.new ≡ filter.old }
 {
-    Ok(StatColumn::Marks(marks_of(alloc, filter, live, rows)?))
+    let marks = marks_of(alloc, filter, live, rows)?;
+    Ok(StatColumn::Marks(marks))
 }
 
 /// The number that each row has in a column.

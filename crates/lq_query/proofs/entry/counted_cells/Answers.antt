@@ -9,4 +9,4 @@ use Rattle.lq_query.proofs.entry.counted_cells.Goals as goal
 pub returns-clause-cells : goal.returns-clause-cells
 returns-clause-cells c =
     let chosen = λ (row : Row). holds (truth_on (cell_of c.args.live.now.state row)) c.args.filter.now in
-    ap (map cell.Counted) c.in_ok-marks_of.ensures.marks ∙ map-map cell.Counted chosen c.args.rows.now
+    ap (map cell.Counted) c.in_ok-marks.ensures.marks ∙ map-map cell.Counted chosen c.args.rows.now
