@@ -1,15 +1,14 @@
 -- What is kept of whole columns of cells.
-use Rattle.std.proofs.Common.{◌≡◌, ◌<◌, ◌≤◌, ◌+◌, ◌-◌, ◌*◌, ◌^◌, ℕ, zero, suc, Bool, true, false, List, [], ◌∷◌, length, map, get_or, refl, sym, ap, ◌∙◌, ℤ, pos, ◌+ℤ◌, unsigned_abs, drop, subst, All, arith}
+use Rattle.std.proofs.Common.{◌≡◌, ◌<◌, ◌≤◌, ◌+◌, ◌-◌, ◌^◌, ℕ, zero, suc, Bool, true, false, List, [], ◌∷◌, length, map, get_or, refl, sym, ap, ◌∙◌, ℤ, pos, unsigned_abs, drop, subst, All, arith}
 use Rattle.std.specs.Int.{w128}
-use Rattle.std.specs.List.{AllByRecursion, fold}
+use Rattle.std.specs.List.{AllByRecursion}
 use Rattle.std.proofs.lemmas.Int.{fits_signed_from_abs, to_z-of_z}
 use Rattle.std.proofs.Math.Nat.{add-zero}
 use Rattle.std.proofs.lemmas.List.{drop_more, get_or-drop}
 use Rattle.std.proofs.lemmas.List.Elements.{All-get_or}
 use mir.Val.{of_z, to_z}
-use Rattle.lq_stats.specs.Columns.{marked_by_both, marked_cells, with_column}
+use Rattle.lq_stats.specs.Columns.{marked_by_both, with_column}
 use Rattle.lq_stats.specs.Totals.{HasRoom, IsSized, IsSmall, with_cell}
-use Rattle.lq_stats.specs.declared.cell.StatCell.{StatCell}
 use Rattle.lq_stats.specs.declared.cell.StatCell.TheVariants as cell
 use Rattle.lq_stats.specs.declared.total.Total.{Total}
 use Rattle.lq_stats.specs.declared.total.Total.TheVariants as total

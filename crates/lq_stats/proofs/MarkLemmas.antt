@@ -1,5 +1,5 @@
 -- The groups of marked rows without a key, of which each statistic has a column of cells.
-use Rattle.std.proofs.Common.{◌≡◌, ◌<◌, ◌≤◌, ◌+◌, ◌^◌, ℕ, zero, suc, Bool, true, false, Option, Some, None, List, [], ◌∷◌, ◌++◌, append_assoc, cond, count_by, length, map, drop, refl, subst, sym, ap, ◌∙◌, slice_get, slice_index_or, slice_set, All, arith, length-append}
+use Rattle.std.proofs.Common.{◌≡◌, ◌<◌, ◌≤◌, ◌+◌, ◌^◌, ℕ, zero, suc, Bool, true, false, Some, List, [], ◌∷◌, ◌++◌, append_assoc, cond, count_by, length, map, drop, refl, subst, sym, ap, ◌∙◌, slice_get, slice_index_or, slice_set, All, arith, length-append}
 use Rattle.std.specs.Prelude.{position}
 use Rattle.std.specs.List.{AllByRecursion, AllZip}
 use Rattle.std.proofs.lemmas.List.{append-nil, length-map}

@@ -1,7 +1,6 @@
-use Rattle.std.proofs.Common.{◌≡◌, ◌<◌, ℕ, List, length, get_or, drop, subst, sym, ap, ◌∙◌, arith}
+use Rattle.std.proofs.Common.{◌<◌, length, subst, sym, arith}
 use Rattle.std.proofs.lemmas.List.Elements.{All-get_or}
 use Rattle.lq_stats.specs.Totals.{IsSmall}
-use Rattle.lq_stats.specs.declared.total.Total.{Total}
 use Rattle.lq_stats.proofs.ColumnLemmas.{same_rest}
 use Rattle.lq_stats.proofs.totals.add_cells.Goals as goal
 

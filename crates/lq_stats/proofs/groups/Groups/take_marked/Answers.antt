@@ -1,9 +1,8 @@
-use Rattle.std.proofs.Common.{◌≡◌, ◌+◌, ◌≤◌, ◌^◌, length, map, subst, ap, ◌∙◌}
-use Rattle.std.specs.List.{AllZip}
-use Rattle.lq_stats.specs.Columns.{IsColumnOf, column_cells}
+use Rattle.std.proofs.Common.{length, map, ◌∙◌}
+use Rattle.lq_stats.specs.Columns.{column_cells}
 use Rattle.lq_stats.specs.contracts.groups.Groups.{the_view}
 use Rattle.lq_stats.proofs.BoundLemmas.{room_in_totals, totals_as_many}
-use Rattle.lq_stats.proofs.MarkLemmas.{columns_as_many, columns_long, columns_sized, has_totals, marked_groups, marked_has}
+use Rattle.lq_stats.proofs.MarkLemmas.{columns_as_many, columns_long, columns_sized, marked_groups, marked_has}
 use Rattle.lq_stats.proofs.groups.Groups.take_marked.Goals as goal
 
 pub add_marked-requires-clause-count : goal.add_marked-requires-clause-count

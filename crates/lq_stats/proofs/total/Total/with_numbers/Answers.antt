@@ -1,4 +1,4 @@
-use Rattle.std.proofs.Common.{◌≡◌, ◌≤◌, ◌-◌, ◌+◌, ◌^◌, length, ap, sym, subst, refl, ◌∙◌, get_or, unsigned_abs, ℤ, pos, arith}
+use Rattle.std.proofs.Common.{◌≤◌, ◌-◌, ◌+◌, ◌^◌, length, ap, ◌∙◌, get_or, unsigned_abs, ℤ, pos, arith}
 use Rattle.lq_stats.specs.Totals.{with_cell}
 use Rattle.lq_stats.specs.declared.cell.StatCell.TheVariants as cell
 use Rattle.lq_stats.proofs.ColumnLemmas.{marked_number, number_itself, room_for_marked, room_with_less, sized_number, unmarked_number}
