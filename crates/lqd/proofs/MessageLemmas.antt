@@ -1,8 +1,12 @@
 -- What is done with the message that stands first, by its kind.
-use Rattle.std.proofs.Common.{◌≡◌, ◌≢◌, ℕ, Bool, true, false, List, [], ◌∷◌, ◌++◌, take, nat_lt, length, if◌then◌else◌, refl, sym, ap, ◌∙◌}
+use Rattle.std.proofs.Common.{inl, inr, ◌≡◌, ◌≢◌, ℕ, Bool, true, false, List, [], ◌∷◌, ◌++◌, take, nat_lt, length, if◌then◌else◌, refl, sym, ap, ◌∙◌}
 use Rattle.std.specs.Prelude.{Option, not}
+use Rattle.std.specs.Prelude.{Result, Ok, Err, OnOk, OnErr}
 use Rattle.std.specs.Io.KnownBytes.{Appends}
 use Rattle.std.proofs.KnownBytes.{Appends-nil}
+use Rattle.lq_outside.specs.Faults.{Rose}
+use Rattle.lq_outside.specs.Sinks.{AppendsFront}
+use Rattle.lqd.specs.Reading.{AppendsOrFaults}
 use Rattle.lq_request.specs.Messages.{message_limit, Message, Piece, Query, Command, TooLong, Empty, More, messages, whole_messages, first_piece, message_of, message_at, whole, command_from, query_from, IsCutOff, IsLast}
 use Rattle.lq_request.specs.Request.{asked}
 use Rattle.lq_live.specs.State.{Counted}
@@ -38,15 +42,13 @@ last_query_served ended held left text old out_old out cut keep written = record
   written = written;
 }
 
-pub query_broken : (fault : ServeErr) (ended : Bool) (held left text : List ℕ) (old : Counted) (out_old out : Option (List ℕ)) → IsCutOff ended held (Query text) left
-    → BreaksReply fault (reply_to (asked text) old.state) out_old out → Breaks fault ended held old out_old out
-query_broken error.Read ended held left text old out_old out cut breaks = breaks
-query_broken error.Write ended held left text old out_old out cut breaks = record {
+pub query_broken : (fault : ServeErr) (ended : Bool) (held left text : List ℕ) (old : Counted) (before now : ℕ) (out_old out : Option (List ℕ))
+    → IsCutOff ended held (Query text) left → BreaksReply fault (Query text) old.state before now out_old out → Breaks fault ended held old before now out_old out
+query_broken fault ended held left text old before now out_old out cut broken = record {
   piece = Query text;
   first = comes_first ended held left (Query text) cut;
-  front = breaks;
+  broken = broken;
 }
-query_broken error.Memory ended held left text old out_old out cut breaks = breaks
 
 pub command_served : (ended : Bool) (held left text : List ℕ) (old new : Counted) (out : Option (List ℕ)) → IsCutOff ended held (Command text) left
     → new ≡ after_piece old (Command text) → Serves ended held left old new out out
@@ -56,6 +58,20 @@ command_served ended held left text old new out cut state = record {
   kept = refl;
   state = state;
   written = Appends-nil out;
+}
+
+-- what a write came to
+pub written_or_faults : {T E : Type 0} (result : Result T E) (before now : ℕ) (old new : Option (List ℕ)) (bytes : List ℕ) → OnOk result (Appends old new bytes)
+    → OnErr result (AppendsFront old new bytes) → OnErr result (Rose before now) → AppendsOrFaults before now old new bytes
+written_or_faults (Ok done) before now old new bytes whole front rose = inl whole
+written_or_faults (Err failed) before now old new bytes whole front rose = inr (rose, front)
+
+pub command_broken : (ended : Bool) (held left text : List ℕ) (old : Counted) (count : ℕ) (out : Option (List ℕ)) → IsCutOff ended held (Command text) left
+    → Breaks error.Memory ended held old count count out out
+command_broken ended held left text old count out cut = record {
+  piece = Command text;
+  first = comes_first ended held left (Command text) cut;
+  broken = inl (Appends-nil out);
 }
 
 last_first : (ended : Bool) (held front : List ℕ) → IsLast ended held (TooLong front) → ComesFirst ended held (TooLong front)
@@ -73,15 +89,13 @@ too_long_served ended held front old out_old out is written = record {
   written = written;
 }
 
-pub too_long_broken : (fault : ServeErr) (ended : Bool) (held front : List ℕ) (old : Counted) (out_old out : Option (List ℕ)) → IsLast ended held (TooLong front)
-    → BreaksReply fault (refusal_text too_long (style_of front).fixed16) out_old out → Breaks fault ended held old out_old out
-too_long_broken error.Read ended held front old out_old out is breaks = breaks
-too_long_broken error.Write ended held front old out_old out is breaks = record {
+pub too_long_broken : (fault : ServeErr) (ended : Bool) (held front : List ℕ) (old : Counted) (before now : ℕ) (out_old out : Option (List ℕ))
+    → IsLast ended held (TooLong front) → BreaksReply fault (TooLong front) old.state before now out_old out → Breaks fault ended held old before now out_old out
+too_long_broken fault ended held front old before now out_old out is broken = record {
   piece = TooLong front;
   first = last_first ended held front is;
-  front = breaks;
+  broken = broken;
 }
-too_long_broken error.Memory ended held front old out_old out is breaks = breaks
 
 -- ---- no message is left only at the end of the input
 

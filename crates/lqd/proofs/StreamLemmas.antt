@@ -9,9 +9,9 @@ use Rattle.std.proofs.lemmas.Grind.{common_steps}
 use Rattle.lq_outside.specs.Sinks.{AppendsFront}
 use Rattle.lq_live.specs.State.{State, Counted}
 use Rattle.lq_request.specs.Messages.{Piece, messages, messages_up_to, whole_messages}
-use Rattle.lqd.specs.Reading.{ReadsAll, ReadsNoFurther, RepliesToFirst, RepliesToRead}
-use Rattle.lqd.specs.Replies.{after_piece, is_last, is_over, opening, replies, replies_from, replies_to, reply_to_piece}
-use Rattle.lqd.specs.Session.{Fills, Serves, ServesLast, FindsNone, WantsMore, CutsShort, Breaks, Stops}
+use Rattle.lqd.specs.Reading.{AppendsOrFaults, ReadsAll, ReadsNoFurther, RepliesToFirst, RepliesToRead}
+use Rattle.lqd.specs.Replies.{after_piece, is_last, is_over, memory_reply, opening, replies, replies_from, replies_to, reply_to_piece}
+use Rattle.lqd.specs.Session.{Fills, Serves, ServesLast, FindsNone, WantsMore, Breaks, Stops}
 use Rattle.lqd.specs.declared.session.ServeErr.{ServeErr}
 use Rattle.lqd.specs.declared.session.ServeErr.TheVariants as error
 
@@ -346,10 +346,10 @@ front_written s old left out_old out out_new now ended held room less at piece l
           (Appends-trans out_old out out_new at.written (take front.0 reply) at.appended front.2),
     )
 
-write_read : (s : State) (old left out_old out out_new : Option (List ℕ)) (now : Counted) (ended : Bool) (held : List ℕ) (room less : ℕ)
-    → Stands s old left out_old out now ended held room → CutsShort ended held now out out_new → room ≡ less + 1
+write_read : (s : State) (old left out_old out out_new : Option (List ℕ)) (now : Counted) (ended : Bool) (held : List ℕ) (room less before after : ℕ)
+    → Stands s old left out_old out now ended held room → Breaks error.Write ended held now before after out out_new → room ≡ less + 1
     → RepliesToRead s old left out_old out_new
-write_read s old left out_old out out_new now true held room less at cuts is =
+write_read s old left out_old out out_new now true held room less before after at cuts is =
     let first = cuts.first.all [] (λ _. refl) in
     let whole : messages at.taken ≡ at.done ++ cuts.piece ∷ first.0 =
     ap messages (sym (append_none at.taken)) ∙ at.all [] (λ _. refl) ∙ ap (λ later. at.done ++ later) first.1 in
@@ -359,10 +359,10 @@ write_read s old left out_old out out_new now true held room less at cuts is =
       front = inl (
         at.at_end refl,
         subst (λ pieces. AppendsFront out_old out_new (replies_to s pieces)) (sym whole)
-            (front_written s old left out_old out out_new now true held room less at cuts.piece first.0 cuts.front is),
+            (front_written s old left out_old out out_new now true held room less at cuts.piece first.0 cuts.broken is),
       );
     }
-write_read s old left out_old out out_new now false held room less at cuts is =
+write_read s old left out_old out out_new now false held room less before after at cuts is =
     let first = cuts.first.known [] refl in
     let whole : whole_messages at.taken ≡ at.done ++ cuts.piece ∷ first.0 =
     whole_taken s old left out_old out now held room at ∙ ap (λ later. at.done ++ later) first.1 in
@@ -370,56 +370,62 @@ write_read s old left out_old out out_new now false held room less at cuts is =
       taken = at.taken;
       consumed = at.consumed;
       front = inr (subst (λ pieces. AppendsFront out_old out_new (replies_to s pieces)) (sym whole)
-          (front_written s old left out_old out out_new now false held room less at cuts.piece first.0 cuts.front is));
+          (front_written s old left out_old out out_new now false held room less at cuts.piece first.0 cuts.broken is));
     }
 
-write_front : (s : State) (old left out_old out out_new : Option (List ℕ)) (now : Counted) (ended : Bool) (held : List ℕ) (room less : ℕ)
-    → Stands s old left out_old out now ended held room → CutsShort ended held now out out_new → room ≡ less + 1
+write_front : (s : State) (old left out_old out out_new : Option (List ℕ)) (now : Counted) (ended : Bool) (held : List ℕ) (room less before after : ℕ)
+    → Stands s old left out_old out now ended held room → Breaks error.Write ended held now before after out out_new → room ≡ less + 1
     → IfSome old (λ input. AppendsFront out_old out_new (replies s input))
-write_front s None left out_old out out_new now ended held room less at cuts is = tt
-write_front s (Some input) None out_old out out_new now ended held room less at cuts is = absurd at.consumed
-write_front s (Some input) (Some rest) out_old out out_new now ended held room less at cuts is =
+write_front s None left out_old out out_new now ended held room less before after at cuts is = tt
+write_front s (Some input) None out_old out out_new now ended held room less before after at cuts is = absurd at.consumed
+write_front s (Some input) (Some rest) out_old out out_new now ended held room less before after at cuts is =
     let first = cuts.first.all rest at.at_end in
     let whole : messages input ≡ at.done ++ cuts.piece ∷ first.0 =
     ap messages at.consumed ∙ at.all rest at.at_end ∙ ap (λ later. at.done ++ later) first.1 in
     subst (λ pieces. AppendsFront out_old out_new (replies_to s pieces)) (sym whole)
-    (front_written s (Some input) (Some rest) out_old out out_new now ended held room less at cuts.piece first.0 cuts.front is)
+    (front_written s (Some input) (Some rest) out_old out out_new now ended held room less at cuts.piece first.0 cuts.broken is)
 
-write_stopped : (s : State) (old left out_old out out_new : Option (List ℕ)) (now : Counted) (ended : Bool) (held : List ℕ) (room less : ℕ)
-    → Stands s old left out_old out now ended held room → CutsShort ended held now out out_new → room ≡ less + 1
+write_stopped : (s : State) (old left out_old out out_new : Option (List ℕ)) (now : Counted) (ended : Bool) (held : List ℕ) (room less before after : ℕ)
+    → Stands s old left out_old out now ended held room → Breaks error.Write ended held now before after out out_new → room ≡ less + 1
     → Stops error.Write s old left out_old out_new
-write_stopped s old left out_old out out_new now ended held room less at cuts is =
-    (write_read s old left out_old out out_new now ended held room less at cuts is, write_front s old left out_old out out_new now ended held room less at cuts is)
+write_stopped s old left out_old out out_new now ended held room less before after at cuts is =
+    (write_read s old left out_old out out_new now ended held room less before after at cuts is, write_front s old left out_old out out_new now ended held room less before after at cuts is)
 
-first_written : (s : State) (old left out_old out : Option (List ℕ)) (now : Counted) (ended : Bool) (held : List ℕ) (room : ℕ)
-    → Stands s old left out_old out now ended held room → IfSome old (λ input. RepliesToFirst s input out_old out)
-first_written s None left out_old out now ended held room at = tt
-first_written s (Some input) None out_old out now ended held room at = absurd at.consumed
-first_written s (Some input) (Some rest) out_old out now ended held room at =
-    let served : take (length at.done) (messages input) ≡ at.done =
-    ap (λ bytes. take (length at.done) (messages bytes)) at.consumed ∙ ap (take (length at.done)) (at.all rest at.at_end)
-    ∙ take_done (length at.done) at.done (messages (held ++ rest)) 0 (omega arith) ∙ append_none at.done in
+-- a count that rose since later rose since earlier
+fault_since : (start before after : ℕ) (out out_new : Option (List ℕ)) (bytes : List ℕ) → start ≤ before
+    → AppendsOrFaults before after out out_new bytes → AppendsOrFaults start after out out_new bytes
+fault_since start before after out out_new bytes later (inl whole) = inl whole
+fault_since start before after out out_new bytes later (inr failed) = inr (omega (arith, later, failed.0), failed.1)
+
+-- the replies to the messages that were served, and the refusal of the next one
+memory_refused : (s : State) (old left out_old out out_new : Option (List ℕ)) (now : Counted) (ended : Bool) (held : List ℕ) (room start before after : ℕ)
+    → Stands s old left out_old out now ended held room → Breaks error.Memory ended held now before after out out_new → 0 < room → start ≤ before
+    → IfSome old (λ input. RepliesToFirst s input start after out_old out_new)
+memory_refused s None left out_old out out_new now ended held room start before after at breaks some later = tt
+memory_refused s (Some input) None out_old out out_new now ended held room start before after at breaks some later = absurd at.consumed
+memory_refused s (Some input) (Some rest) out_old out out_new now ended held room start before after at breaks some later =
+    let behind = breaks.first.all rest at.at_end in
     record {
-      count = length at.done;
-      written = subst (λ bytes. Appends out_old out bytes)
-          (sym (ap (replies_to s) served ∙ replies_served s (Some input) (Some rest) out_old out now ended held room at)) at.appended;
+      first = at.done;
+      next = breaks.piece;
+      later = behind.0;
+      all = ap messages at.consumed ∙ at.all rest at.at_end ∙ ap (λ pieces. at.done ++ pieces) behind.1;
+      goes_on = not_over at.done room (room - 1) at.count (omega (arith, some)) at.kept;
+      between = out;
+      served = subst (λ bytes. Appends out_old out bytes) (sym (replies_served s (Some input) (Some rest) out_old out now ended held room at)) at.appended;
+      refused = fault_since start before after out out_new (memory_reply breaks.piece) later breaks.broken;
     }
 
-memory_stopped : (s : State) (old left out_old out out_new : Option (List ℕ)) (now : Counted) (ended : Bool) (held : List ℕ) (room : ℕ)
-    → Stands s old left out_old out now ended held room → Appends out out_new [] → Stops error.Memory s old left out_old out_new
-memory_stopped s old left out_old out out_new now ended held room at still = (
-  record { taken = at.taken; consumed = at.consumed },
-  first_written s old left out_old out_new now ended held room (stands_still s old left out_old out out_new now ended held room at still),
-)
+pub next_refused : (fault : ServeErr) (s : State) (old left out_old out out_new : Option (List ℕ)) (now : Counted) (ended : Bool) (held : List ℕ) (room start before after : ℕ)
+    → Stands s old left out_old out now ended held room → Breaks fault ended held now before after out out_new → 0 < room → start ≤ before → fault ≡ error.Memory
+    → IfSome old (λ input. RepliesToFirst s input start after out_old out_new)
+next_refused fault s old left out_old out out_new now ended held room start before after at breaks some later is =
+    memory_refused s old left out_old out out_new now ended held room start before after at
+    (subst (λ why. Breaks why ended held now before after out out_new) is breaks) some later
 
-pub next_stopped : (fault : ServeErr) (s : State) (old left out_old out out_new : Option (List ℕ)) (now : Counted) (ended : Bool) (held : List ℕ) (room : ℕ)
-    → Stands s old left out_old out now ended held room → Breaks fault ended held now out out_new → 0 < room → Stops fault s old left out_old out_new
-next_stopped error.Read s old left out_old out out_new now ended held room at breaks some = absurd breaks
-next_stopped error.Write s old left out_old out out_new now ended held room at breaks some =
-    write_stopped s old left out_old out out_new now ended held room (room - 1) at breaks (omega (arith, some))
-next_stopped error.Memory s old left out_old out out_new now ended held room at breaks some =
-    memory_stopped s old left out_old out out_new now ended held room at breaks
-
--- before anything was read
-pub memory_first : (s : State) (left out : Option (List ℕ)) → Stops error.Memory s left left out out
-memory_first s left out = memory_stopped s left left out out out _ false [] 10000 (stands_at_first s left out) (Appends-nil out)
+pub next_stopped : (fault : ServeErr) (s : State) (old left out_old out out_new : Option (List ℕ)) (now : Counted) (ended : Bool) (held : List ℕ) (room before after : ℕ)
+    → Stands s old left out_old out now ended held room → Breaks fault ended held now before after out out_new → 0 < room → Stops fault s old left out_old out_new
+next_stopped error.Read s old left out_old out out_new now ended held room before after at breaks some = absurd breaks.broken
+next_stopped error.Write s old left out_old out out_new now ended held room before after at breaks some =
+    write_stopped s old left out_old out out_new now ended held room (room - 1) before after at breaks (omega (arith, some))
+next_stopped error.Memory s old left out_old out out_new now ended held room before after at breaks some = record { taken = at.taken; consumed = at.consumed }

@@ -1,10 +1,11 @@
 -- How much of an input is read, and what is written by then.
-use Rattle.std.specs.Prelude.{◌≡◌, ℕ, ◌≤◌, ◌⊎◌, true, false, Option, List, ◌++◌, length, take}
+use Rattle.std.specs.Prelude.{◌≡◌, ℕ, ◌≤◌, ◌⊎◌, true, false, Option, List, ◌∷◌, ◌++◌, length}
 use Rattle.std.specs.Io.KnownBytes.{Appends, Consumes, IsAtEnd}
+use Rattle.lq_outside.specs.Faults.{Rose}
 use Rattle.lq_outside.specs.Sinks.{AppendsFront}
 use Rattle.lq_live.specs.State.{State}
-use Rattle.lq_request.specs.Messages.{messages, whole_messages}
-use Rattle.lqd.specs.Replies.{is_over, replies, replies_to}
+use Rattle.lq_request.specs.Messages.{Piece, messages, whole_messages}
+use Rattle.lqd.specs.Replies.{is_over, memory_reply, replies, replies_to}
 
 -- some of the input was read, or nothing
 pub record ReadsSome (old left : Option (List ℕ)) : Type 0 where
@@ -39,11 +40,24 @@ pub record RepliesToPart (s : State) (old left held_old held : Option (List ℕ)
   pub consumed : Consumes old left taken
   pub written : Appends held_old held (replies_to s (whole_messages taken))
 
--- the replies to the first messages of the input were written
-pub record RepliesToFirst (s : State) (input : List ℕ)
+-- the bytes were written, or a write failed and a front of them was written
+abbrev pub AppendsOrFaults : ℕ → ℕ → Option (List ℕ) → Option (List ℕ) → List ℕ → Type 0
+AppendsOrFaults before now old new bytes =
+    Appends old new bytes ⊎ (Rose before now × AppendsFront old new bytes)
+
+-- The replies to the first messages of the input were written, within which the connection doesn't
+-- end, and then what the next message is answered with where memory runs out for it, or a front of
+-- that where a write failed.
+pub record RepliesToFirst (s : State) (input : List ℕ) (before now : ℕ)
     (held_old held : Option (List ℕ)) : Type 0 where
-  pub count : ℕ
-  pub written : Appends held_old held (replies_to s (take count (messages input)))
+  pub first : List Piece
+  pub next : Piece
+  pub later : List Piece
+  pub all : messages input ≡ first ++ next ∷ later
+  pub goes_on : is_over first ≡ false
+  pub between : Option (List ℕ)
+  pub served : Appends held_old between (replies_to s first)
+  pub refused : AppendsOrFaults before now between held (memory_reply next)
 
 -- What was written is a front of the replies to the messages that were read: to those that are
 -- whole in what was read, or, where the input was read to its end, to all.

@@ -31,6 +31,10 @@ keeps (Err refused) = refused.style.keep
 abbrev pub too_long : Refusal
 too_long = record { code = 413; text = codes "request too large" }
 
+-- what refuses a message that memory runs out for
+abbrev pub out_of_memory : Refusal
+out_of_memory = record { code = 500; text = codes "out of memory" }
+
 -- The bytes that a message is answered with at a state. A too long message is refused in the style
 -- of its front. A command never gets a reply.
 abbrev pub reply_to_piece : Piece → State → List ℕ
@@ -39,6 +43,15 @@ reply_to_piece (Command text) s = []
 reply_to_piece (TooLong front) s = refusal_text too_long (style_of front).fixed16
 reply_to_piece Empty s = []
 reply_to_piece More s = []
+
+-- The bytes that a message is answered with where memory runs out for it: the refusal, in the
+-- style of the message.
+abbrev pub memory_reply : Piece → List ℕ
+memory_reply (Query text) = refusal_text out_of_memory (style_of text).fixed16
+memory_reply (Command text) = []
+memory_reply (TooLong front) = refusal_text out_of_memory (style_of front).fixed16
+memory_reply Empty = []
+memory_reply More = []
 
 -- the update of an order: the connection has the number 0, and its updates are counted from 0 on
 abbrev pub update_of : ℕ → Order → Update

@@ -4,8 +4,8 @@ use Rattle.std.specs.Io.KnownBytes.{Appends, Consumes, IsAtEnd}
 use Rattle.lq_outside.specs.Sinks.{AppendsFront}
 use Rattle.lq_live.specs.State.{State, Counted}
 use Rattle.lq_request.specs.Messages.{message_limit, Piece, messages, whole_messages, IsCutOff}
-use Rattle.lqd.specs.Reading.{ReadsPart, ReadsSome, RepliesToFirst, RepliesToPart, RepliesToRead}
-use Rattle.lqd.specs.Replies.{after_piece, is_last, replies, reply_to_piece}
+use Rattle.lqd.specs.Reading.{AppendsOrFaults, ReadsPart, ReadsSome, RepliesToPart, RepliesToRead}
+use Rattle.lqd.specs.Replies.{after_piece, is_last, memory_reply, replies, reply_to_piece}
 use Rattle.lqd.specs.declared.session.Next.{Next}
 use Rattle.lqd.specs.declared.session.Next.TheVariants as next
 use Rattle.lqd.specs.declared.session.ServeErr.{ServeErr}
@@ -74,33 +74,31 @@ Does next.Last ended held left old new out_old out = ServesLast ended held old o
 Does next.Closed ended held left old new out_old out = FindsNone ended held out_old out
 Does next.More ended held left old new out_old out = WantsMore ended held left old new out_old out
 
--- what was written of a reply where it wasn't written whole
-abbrev pub BreaksReply : ServeErr → List ℕ → Option (List ℕ) → Option (List ℕ) → Type 0
-BreaksReply error.Read reply out_old out = ⊥
-BreaksReply error.Write reply out_old out = AppendsFront out_old out reply
-BreaksReply error.Memory reply out_old out = Appends out_old out []
+-- What was written where a message wasn't served: a front of its reply, or where memory ran out
+-- for it what it is answered with then.
+abbrev pub BreaksReply : ServeErr → Piece → State → ℕ → ℕ → Option (List ℕ) → Option (List ℕ)
+    → Type 0
+BreaksReply error.Read piece s before now out_old out = ⊥
+BreaksReply error.Write piece s before now out_old out =
+    AppendsFront out_old out (reply_to_piece piece s)
+BreaksReply error.Memory piece s before now out_old out =
+    AppendsOrFaults before now out_old out (memory_reply piece)
 
--- a part of the reply to a message was written
-pub record CutsShort (ended : Bool) (held : List ℕ) (old : Counted)
+-- a message stands first and wasn't served
+pub record Breaks (fault : ServeErr) (ended : Bool) (held : List ℕ) (old : Counted) (before now : ℕ)
     (out_old out : Option (List ℕ)) : Type 0 where
   pub piece : Piece
   pub first : ComesFirst ended held piece
-  pub front : AppendsFront out_old out (reply_to_piece piece old.state)
-
--- what was written where a message wasn't served
-abbrev pub Breaks : ServeErr → Bool → List ℕ → Counted → Option (List ℕ) → Option (List ℕ) → Type 0
-Breaks error.Read ended held old out_old out = ⊥
-Breaks error.Write ended held old out_old out = CutsShort ended held old out_old out
-Breaks error.Memory ended held old out_old out = Appends out_old out []
+  pub broken : BreaksReply fault piece old.state before now out_old out
 
 -- ---- a connection
 
--- what was read and written where a connection breaks off
+-- What was read where a connection breaks off, and what was written after a failed read or write.
+-- What was written where memory ran out, `RepliesToFirst` says.
 abbrev pub Stops : ServeErr → State → Option (List ℕ) → Option (List ℕ) → Option (List ℕ)
     → Option (List ℕ) → Type 0
 Stops error.Read s old left out_old out = ReadsPart old left × RepliesToPart s old left out_old out
 Stops error.Write s old left out_old out =
     RepliesToRead s old left out_old out
     × IfSome old (λ input. AppendsFront out_old out (replies s input))
-Stops error.Memory s old left out_old out =
-    ReadsSome old left × IfSome old (λ input. RepliesToFirst s input out_old out)
+Stops error.Memory s old left out_old out = ReadsSome old left

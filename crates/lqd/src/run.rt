@@ -30,7 +30,9 @@ use std::alloc::Global;
 /// - 4: the object file is missing or can't be read.
 /// - 5: the input can't be read.
 /// - 6: the output can't be written.
-/// - 7: out of memory.
+/// - 7: out of memory. Where it ran out for a query or a message that is too long, the reply to it
+///   is the refusal `out of memory` with the code 500: 30 bytes with `ResponseHeader: fixed16`, or
+///   none without. Where the write of it fails, a front of it was written, and the status is 7 too.
 ///
 /// With a status above 0 its text goes to `faults`; a failed write of it changes no status.
 pub fn run<R, F: Files, S: Source, K: Sink>(
@@ -81,10 +83,12 @@ pub fn run<R, F: Files, S: Source, K: Sink>(
         (K.held output.old) (K.held output.new))) }
     ensures some_read { (result ≡ 6) ⊎ (result ≡ 7)
         → ReadsSome (S.left input.old) (S.left input.new) }
-    ensures first_written { result ≡ 7 → (output.new ≡ output.old)
+    ensures first_written { result ≡ 7
+        → ((input.new ≡ input.old) × (output.new ≡ output.old))
         ⊎ OnFile (asked_path (map string_bytes words.now)) (F.held_at files.old)
         (λ _ file. OnBase file (λ base. IfSome (S.left input.old) (λ all.
-        RepliesToFirst (opened base) all (K.held output.old) (K.held output.new)))) }
+        RepliesToFirst (opened base) all (K.faults output.old) (K.faults output.new)
+        (K.held output.old) (K.held output.new)))) }
 
     // What the fault sink gets, where its count of faults doesn't rise.
     ensures report { ¬ Rose (K.faults faults.old) (K.faults faults.new)

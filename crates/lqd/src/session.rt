@@ -1,15 +1,15 @@
-ghost use Rattle.std.specs.Prelude.{[], ◌≡◌, ◌≢◌, ◌<◌, ◌≤◌, length, vec_len, IfOk, IfErr, IfSome, OnErr, OnOk};
+ghost use Rattle.std.specs.Prelude.{[], ◌≡◌, ◌≢◌, ◌<◌, ◌≤◌, ◌⊎◌, length, vec_len, IfOk, IfErr, IfSome, OnErr, OnOk};
 ghost use Rattle.std.specs.Io.KnownBytes.{Appends, Keeps};
 ghost use Rattle.lq_outside.specs.Faults.{HasCause, Rose};
 ghost use Rattle.lq_outside.specs.Sinks.{AppendsFront};
 ghost use Rattle.lq_records.specs.Sound.{IsSound};
 ghost use Rattle.lq_live.specs.State.{opened};
-ghost use Rattle.lq_request.specs.Messages.{Command, Query, message_limit};
+ghost use Rattle.lq_request.specs.Messages.{Command, Query, TooLong, message_limit};
 ghost use Rattle.lq_output.specs.Header.{refusal_text};
 ghost use Rattle.lq_request.specs.Request.{asked};
 ghost use Rattle.lq_request.specs.Style.{style_of};
-ghost use Rattle.lqd.specs.Reading.{ReadsAll, ReadsNoFurther};
-ghost use Rattle.lqd.specs.Replies.{after_piece, keeps, opening, replies, reply_to, too_long, update_of};
+ghost use Rattle.lqd.specs.Reading.{AppendsOrFaults, ReadsAll, ReadsNoFurther, RepliesToFirst};
+ghost use Rattle.lqd.specs.Replies.{after_piece, keeps, opening, out_of_memory, replies, reply_to, too_long, update_of};
 ghost use Rattle.lqd.specs.Session.{Breaks, BreaksReply, Does, Fills, Stops};
 
 use lq_commands::{CommandErr, Order, read_command};
@@ -30,6 +30,10 @@ pub const MOST_MESSAGES: usize = 10_000;
 
 /// How many bytes are read at once. More would take more room for each connection.
 const PIECE: usize = 65_536;
+
+/// What a query or a message that is too long is answered where memory runs out for it, if it asks
+/// for the line of 16 bytes. A constant, since the reply itself can take no memory then.
+const OUT_OF_MEMORY: &[u8] = b"500          14\nout of memory\n";
 
 /// Why a connection breaks off.
 #[derive(Clone, Copy, Debug, PartialEq, Eq)]
@@ -56,7 +60,9 @@ impl From<AllocError> for ServeErr {
 /// the next message is read. Each command takes its step of the state, which opens with each object
 /// pending. The connection ends after a query that doesn't keep it, after a message that is too
 /// long, after the 10,000th message, or at the end of the input. The errors are `Read`, `Write` and
-/// out of memory.
+/// out of memory. A query or a message that is too long for which memory runs out is refused with
+/// the code 500, in its style, before the connection ends with that error, also where the write of
+/// it fails.
 pub fn serve<S: Source, K: Sink>(
     alloc: Global,
     base: Base,
@@ -70,6 +76,10 @@ pub fn serve<S: Source, K: Sink>(
     ensures no_further { OnOk result (ReadsNoFurther (S.left input.old) (S.left input.new)) }
     ensures stopped { IfErr result (λ error. Stops error (opened base)
         (S.left input.old) (S.left input.new) (K.held output.old) (K.held output.new)) }
+    ensures refused { result ≡ Err ServeErr.Memory
+        → ((input.new ≡ input.old) × (output.new ≡ output.old))
+        ⊎ IfSome (S.left input.old) (λ all. RepliesToFirst (opened base) all
+        (K.faults output.old) (K.faults output.new) (K.held output.old) (K.held output.new)) }
     ensures input_later { S.faults input.old ≤ S.faults input.new }
     ensures output_later { K.faults output.old ≤ K.faults output.new }
     ensures read_cause { result ≡ Err ServeErr.Read
@@ -100,6 +110,9 @@ fn serve_all<S: Source, K: Sink>(
     ensures no_further { OnOk result (ReadsNoFurther (S.left input.old) (S.left input.new)) }
     ensures stopped { IfErr result (λ error. Stops error session.old.state
         (S.left input.old) (S.left input.new) (K.held output.old) (K.held output.new)) }
+    ensures refused { result ≡ Err ServeErr.Memory
+        → IfSome (S.left input.old) (λ all. RepliesToFirst session.old.state all
+        (K.faults output.old) (K.faults output.new) (K.held output.old) (K.held output.new)) }
     ensures input_later { S.faults input.old ≤ S.faults input.new }
     ensures output_later { K.faults output.old ≤ K.faults output.new }
     ensures read_cause { result ≡ Err ServeErr.Read
@@ -221,6 +234,7 @@ impl Session {
         ensures ok { IfOk result (λ next. Does next ended cut.old cut.new self.old self.new
             (K.held output.old) (K.held output.new)) }
         ensures err { IfErr result (λ error. Breaks error ended cut.old self.old
+            (K.faults output.old) (K.faults output.new)
             (K.held output.old) (K.held output.new)) }
         ensures later { K.faults output.old ≤ K.faults output.new }
         ensures cause { result ≡ Err ServeErr.Write
@@ -245,19 +259,24 @@ impl Session {
         }
     }
 
-    /// Writes the reply to a query, and says whether the connection goes on.
+    /// Writes the reply to a query, and says whether the connection goes on. Where memory runs out
+    /// the query is refused.
     fn answer<K: Sink>(&self, text: &[u8], output: &mut K) -> Result<bool, ServeErr>
         ensures keep { IfOk result (λ keep. keep ≡ keeps (asked text.now)) }
         ensures ok { OnOk result (Appends (K.held output.old) (K.held output.new)
             (reply_to (asked text.now) self.now.state)) }
         ensures broken { IfErr result (λ error.
-            BreaksReply error (reply_to (asked text.now) self.now.state)
+            BreaksReply error (Query text.now) self.now.state
+            (K.faults output.old) (K.faults output.new)
             (K.held output.old) (K.held output.new)) }
         ensures later { K.faults output.old ≤ K.faults output.new }
         ensures cause { result ≡ Err ServeErr.Write
             → Rose (K.faults output.old) (K.faults output.new) }
     {
-        let answered = self.reply(text)?;
+        let Ok(answered) = self.reply(text) else {
+            refuse_for_memory(output, text);
+            return Err(ServeErr::Memory);
+        };
         write_reply(output, answered.bytes.as_slice())?;
         Ok(answered.keep)
     }
@@ -267,13 +286,17 @@ impl Session {
         ensures ok { OnOk result (Appends (K.held output.old) (K.held output.new)
             (refusal_text too_long (style_of front.now).fixed16)) }
         ensures broken { IfErr result (λ error.
-            BreaksReply error (refusal_text too_long (style_of front.now).fixed16)
+            BreaksReply error (TooLong front.now) self.now.state
+            (K.faults output.old) (K.faults output.new)
             (K.held output.old) (K.held output.new)) }
         ensures later { K.faults output.old ≤ K.faults output.new }
         ensures cause { result ≡ Err ServeErr.Write
             → Rose (K.faults output.old) (K.faults output.new) }
     {
-        let bytes = long_refusal(self.alloc, reply_style(front).fixed16)?;
+        let Ok(bytes) = long_refusal(self.alloc, reply_style(front).fixed16) else {
+            refuse_for_memory(output, front);
+            return Err(ServeErr::Memory);
+        };
         write_reply(output, bytes.as_slice())
     }
 
@@ -317,15 +340,26 @@ impl Session {
 /// Writes a reply.
 fn write_reply<K: Sink>(output: &mut K, bytes: &[u8]) -> Result<(), ServeErr>
     ensures ok { OnOk result (Appends (K.held output.old) (K.held output.new) bytes.now) }
-    ensures broken { IfErr result (λ error.
-        BreaksReply error bytes.now (K.held output.old) (K.held output.new)) }
-    ensures later { K.faults output.old ≤ K.faults output.new }
-    ensures cause { result ≡ Err ServeErr.Write
-        → Rose (K.faults output.old) (K.faults output.new) }
+    ensures err { OnErr result (AppendsFront (K.held output.old) (K.held output.new) bytes.now) }
+    ensures write { IfErr result (λ error. error ≡ ServeErr.Write) }
+    ensures cause { HasCause (K.faults output.old) (K.faults output.new) result }
 {
     match write_all(output, bytes) {
         Ok(()) => Ok(()),
         Err(_) => Err(ServeErr::Write),
+    }
+}
+
+/// Refuses a message that memory ran out for, in the style of its text. It takes no memory.
+fn refuse_for_memory<K: Sink>(output: &mut K, text: &[u8])
+    ensures written { AppendsOrFaults (K.faults output.old) (K.faults output.new)
+        (K.held output.old) (K.held output.new)
+        (refusal_text out_of_memory (style_of text.now).fixed16) }
+    ensures later { K.faults output.old ≤ K.faults output.new }
+{
+    if reply_style(text).fixed16 {
+        // Memory stays the reason that the connection ends where this write fails too.
+        let _ = write_all(output, OUT_OF_MEMORY);
     }
 }
 

@@ -884,3 +884,163 @@ fn assert_told<R: Abort + AllocGlobal>(rt: &R) -> Result<(), Fail> {
     let refused = b"413          18\nrequest too large\n";
     assert_run(rt, &["ask", "f"], &STEADY, &more, (0, refused, b""))
 }
+
+/// The size of the first blocks that are taken: half of what a process can address.
+const LARGEST: usize = 1 << 46;
+
+/// The most blocks that are taken of one size.
+const MOST_BLOCKS: usize = 1 << 18;
+
+/// Takes all the memory that the process may still have, in blocks of ever smaller sizes.
+fn take_all(alloc: Global, blocks: &mut Vec<Vec<u8>>) {
+    for halvings in 0..43u32 {
+        take_blocks(alloc, blocks, LARGEST >> halvings);
+    }
+}
+
+/// Takes as many blocks of a size as there are.
+fn take_blocks(alloc: Global, blocks: &mut Vec<Vec<u8>>, size: usize) {
+    for _ in 0..MOST_BLOCKS {
+        if take_block(alloc, blocks, size).is_err() {
+            return;
+        }
+    }
+}
+
+fn take_block(alloc: Global, blocks: &mut Vec<Vec<u8>>, size: usize) -> Result<(), AllocError> {
+    let block = Vec::with_capacity(alloc, size)?;
+    Ok(blocks.push(block)?)
+}
+
+/// Whether memory ends. It doesn't where `rt try` runs the tests, by an allocator of its own.
+fn has_memory_an_end(alloc: Global) -> Result<bool, AllocError> {
+    let mut blocks = Vec::with_capacity(alloc, MOST_BLOCKS)?;
+    take_all(alloc, &mut blocks);
+    let more: Result<Vec<u8>, AllocError> = Vec::with_capacity(alloc, 1);
+    Ok(more.is_err())
+}
+
+/// A source that gives some first bytes, and takes all memory before it gives more.
+#[derive(Drop)]
+struct Greedy {
+    inner: MemSource,
+    alloc: Global,
+    first: usize,
+    blocks: Vec<Vec<u8>>,
+}
+
+impl Source for Greedy {
+    ghost use Rattle.std.specs.Prelude.{None};
+
+    ghost left = { λ _. None };
+
+    ghost faults = { λ s. s.inner.faults };
+
+    ghost other_side = { λ _. (None, 0) };
+
+    fn read(&mut self, buf: &mut [u8]) -> Result<usize, Failed> {
+        if self.first == 0 {
+            take_all(self.alloc, &mut self.blocks);
+            return self.inner.read(buf);
+        }
+        let most = buf.len().min(self.first);
+        self.first -= most;
+        self.inner.read(&mut buf[..most])
+    }
+}
+
+/// A sink that took its room beforehand.
+#[derive(Drop)]
+struct Roomy {
+    bytes: Vec<u8>,
+    faults: u64,
+}
+
+impl Sink for Roomy {
+    ghost use Rattle.std.specs.Prelude.{None};
+
+    ghost held = { λ _. None };
+
+    ghost faults = { λ s. s.faults };
+
+    ghost other_side = { λ _. (None, 0) };
+
+    fn write(&mut self, piece: &[u8]) -> Result<usize, Failed> {
+        if self.bytes.extend_from_slice(piece).is_err() {
+            self.faults = self.faults.saturating_add(1);
+            return Err(Failed);
+        }
+        Ok(piece.len())
+    }
+}
+
+fn roomy_sink(alloc: Global) -> Result<Roomy, AllocError> {
+    Ok(Roomy {
+        bytes: Vec::with_capacity(alloc, 256)?,
+        faults: 0,
+    })
+}
+
+/// Runs the program on a query whose reply finds memory, and on messages that find none.
+fn assert_scarce<R: Abort + AllocGlobal>(
+    rt: &R,
+    messages: &[u8],
+    refused: &[u8],
+) -> Result<(), Fail> {
+    let alloc = rt.alloc();
+    let words = texts(alloc, &["ask", "f"])?;
+    let mut files = files(alloc, HOSTS, &[])?;
+    let mut bytes = Vec::from_slice(alloc, KEPT)?;
+    bytes.extend_from_slice(messages)?;
+    let mut input = Greedy {
+        inner: source(alloc, &bytes, &[])?,
+        alloc,
+        first: KEPT.len(),
+        blocks: Vec::with_capacity(alloc, MOST_BLOCKS)?,
+    };
+    let mut output = roomy_sink(alloc)?;
+    let mut faults = roomy_sink(alloc)?;
+    let status = run(
+        rt,
+        alloc,
+        &words,
+        &mut files,
+        &mut input,
+        &mut output,
+        &mut faults,
+    );
+    drop(input);
+    assert_eq!(rt; status, 7);
+    assert_eq!(rt; &output.bytes[..ROWS.len()], ROWS);
+    assert_eq!(rt; &output.bytes[ROWS.len()..], refused);
+    assert_eq!(rt; faults.bytes.as_slice(), b"out of memory\n".as_slice());
+    Ok(())
+}
+
+#[test]
+fn a_message_without_memory_is_refused_in_its_style(rt: HostRuntime) -> Result<(), Fail> {
+    let alloc = rt.alloc();
+    if !has_memory_an_end(alloc)? {
+        return Ok(());
+    }
+    let front = b"GET hosts\nResponseHeader: fixed16\nColumns: name";
+    let too_long = padded(alloc, front, b' ', 65_536, b"\n\n")?;
+    let refused = b"500          14\nout of memory\n".as_slice();
+    let cases: [(&[u8], &[u8]); 5] = [
+        (
+            b"GET hosts\nResponseHeader: fixed16\nKeepAlive: on\n\nGET hosts\n\n",
+            refused,
+        ),
+        (b"GET hosts\nKeepAlive: on\n\nGET hosts\n\n", b""),
+        (b"GET nothing\nResponseHeader: fixed16\n\n", refused),
+        (
+            b"COMMAND [1] ADD_HOST_COMMENT;web1;1;anna;say it\n\nGET hosts\n\n",
+            b"",
+        ),
+        (&too_long, refused),
+    ];
+    for (messages, expected) in cases {
+        assert_scarce(&rt, messages, expected)?;
+    }
+    Ok(())
+}

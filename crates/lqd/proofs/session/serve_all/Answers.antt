@@ -1,6 +1,7 @@
 use Rattle.std.proofs.Common.{◌≡◌, [], length, arith, ap}
 use Rattle.lqd.specs.Session.{Serves, WantsMore}
-use Rattle.lqd.proofs.StreamLemmas.{stands_first, stands_next, stands_read, last_replied, none_replied, full_replied, last_read, none_read, full_read, none_further, one_further, next_stopped, read_stopped}
+use Rattle.lqd.proofs.StreamLemmas.{stands_first, stands_next, stands_read, last_replied, none_replied, full_replied, last_read, none_read, full_read, none_further, one_further, next_stopped, next_refused, read_stopped}
+use Rattle.lqd.specs.declared.session.ServeErr.TheVariants as error
 use Rattle.lqd.proofs.session.serve_all.Goals as goal
 
 pub messages-init : goal.messages-init
@@ -60,7 +61,12 @@ pub returns-in-Ok-Closed-clause-read : goal.returns-in-Ok-Closed-clause-read
 returns-in-Ok-Closed-clause-read g c = none_read _ _ _ _ _ _ _ _ _ _ c.messages.invariant.stands (rw c.in-Ok-Closed.field-0-is at c.in-Ok-Closed.ensures.ok)
 
 pub returns-in-Err-clause-stopped : goal.returns-in-Err-clause-stopped
-returns-in-Err-clause-stopped g c = next_stopped _ _ _ _ _ _ _ _ _ _ _ c.messages.invariant.stands c.in-Err.ensures.err c.messages-test.true
+returns-in-Err-clause-stopped g c = next_stopped _ _ _ _ _ _ _ _ _ _ _ _ _ c.messages.invariant.stands c.in-Err.ensures.err c.messages-test.true
+
+pub returns-in-Err-clause-refused : goal.returns-in-Err-clause-refused
+returns-in-Err-clause-refused g c = λ is.
+    let memory : c.in-Err.error ≡ error.Memory = cc in
+    next_refused _ _ _ _ _ _ _ _ _ _ _ _ _ _ c.messages.invariant.stands c.in-Err.ensures.err c.messages-test.true c.messages.invariant.output_later memory
 
 pub returns-clause-written : goal.returns-clause-written
 returns-clause-written g c = full_replied _ _ _ _ _ _ _ _ _ c.messages.invariant.stands (omega (arith, c.messages-test.false))
