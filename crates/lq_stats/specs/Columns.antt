@@ -23,8 +23,8 @@ IsColumnOf count kind cells = (length cells ≡ count) × AllByRecursion (IsCell
 abbrev pub cells_at : ℕ → List (List StatCell) → List StatCell
 cells_at place columns = filter_map (λ (column : List StatCell). slice_get column place) columns
 
--- The rows that are marked, as statistics without columns see them: the cells of each, of which each
--- statistic has a column. The first row stands in a place.
+-- The rows that are marked, as statistics without columns see them: the cells of each, of which
+-- each statistic has a column. The first row stands in a place.
 abbrev pub marked_rows : ℕ → List Bool → List (List StatCell) → List Row
 marked_rows place [] columns = []
 marked_rows place (mark ∷ marks) columns =

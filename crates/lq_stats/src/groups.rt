@@ -23,7 +23,8 @@ use std::mem;
 /// Statistics over rows that are counted one after another. Rows with the same key are one group.
 ///
 /// To count a row, give `key` each cell of its key and then `take` the cells of its statistics.
-/// After an error everything is as it was before the call.
+/// Without columns `take_marked` counts many rows at once. After an error everything is as it was
+/// before the call.
 #[derive(Drop)]
 pub struct Groups {
     spec: StatsSpec,
@@ -246,11 +247,15 @@ fn add_marked(totals: &mut Vec<Totals>, marks: &[bool], columns: &[StatColumn])
     totals[0].add_columns(marks, columns);
 }
 
-/// How many rows are marked.
+/// How many rows are marked, without a branch in the loop.
 fn count_of(marks: &[bool]) -> u64
     ensures { result ≡ count_by (λ mark. mark) marks.now }
 {
-    marks.iter().filter(|mark| **mark).count() as u64
+    let mut count = 0;
+    for mark in marks {
+        count += u64::from(*mark);
+    }
+    count
 }
 
 /// What is kept of one row. The only error is that memory runs out.
