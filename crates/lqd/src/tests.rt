@@ -998,6 +998,8 @@ fn assert_scarce<R: Abort + AllocGlobal>(
         first: KEPT.len(),
         blocks: Vec::with_capacity(alloc, MOST_BLOCKS)?,
     };
+    let mut replies = Vec::from_slice(alloc, ROWS)?;
+    replies.extend_from_slice(refused)?;
     let mut output = roomy_sink(alloc)?;
     let mut faults = roomy_sink(alloc)?;
     let status = run(
@@ -1011,8 +1013,7 @@ fn assert_scarce<R: Abort + AllocGlobal>(
     );
     drop(input);
     assert_eq!(rt; status, 7);
-    assert_eq!(rt; &output.bytes[..ROWS.len()], ROWS);
-    assert_eq!(rt; &output.bytes[ROWS.len()..], refused);
+    assert_eq!(rt; output.bytes.as_slice(), replies.as_slice());
     assert_eq!(rt; faults.bytes.as_slice(), b"out of memory\n".as_slice());
     Ok(())
 }
