@@ -17,7 +17,7 @@ pub fn push_start(out: &mut Vec<u8>, layout: Layout) -> Result<(), Memory>
 
 /// Adds what stands before the next cell: before one in a line, or before a new line. Where memory
 /// runs out, nothing is added.
-#[inline]
+#[inline(always)]
 pub fn push_gap(out: &mut Vec<u8>, spot: Spot) -> Result<(), Memory>
     ensures ok { OnOk result (out.new.items ≡ out.old.items ++ gap_at spot) }
     ensures err { OnErr result (out.new.items ≡ out.old.items) }

@@ -116,6 +116,7 @@ impl Writer {
     }
 
     /// What `append` does, said of the lines and cells that are written.
+    #[inline(always)]
     fn add(&mut self, cell: Cell<'_>) -> Result<(), WriteErr>
         ensures ok { OnOk result (self.new ≡ with_cell self.old (value_of cell.entry)) }
         ensures lines { OnOk result (AddsCell self.old self.new (value_of cell.entry)) }
@@ -129,6 +130,7 @@ impl Writer {
 
     /// Adds a cell to the open line. A number, and a text that is written as it is, go straight to
     /// the body; any other cell is written apart first.
+    #[inline(always)]
     fn append(&mut self, cell: Cell<'_>) -> Result<(), WriteErr>
         ensures ok { OnOk result (self.new ≡ with_cell self.old (value_of cell.entry)) }
         ensures fits { OnOk result (length (closed self.new) ≤ body_limit) }
