@@ -805,24 +805,26 @@ fn a_file_has_67_108_864_bytes_at_most(rt: HostRuntime) -> Result<(), Fail> {
     )
 }
 
-/// The formats, and what a body of one name has around it.
-const AROUND: [(&[u8], &[u8], &[u8]); 3] = [
-    (b"csv", b"", b"\n"),
-    (b"CSV", b"", b"\r\n"),
-    (b"json", b"[[\"", b"\"]]\n"),
+/// A format, what the largest body of one name has before it, how long that name is, and what the
+/// body has after it.
+type Largest<'a> = (&'a [u8], &'a [u8], usize, &'a [u8]);
+
+const LARGEST_BODIES: [Largest<'static>; 3] = [
+    (b"csv", b"", 8_388_607, b"\n"),
+    (b"CSV", b"", 8_388_606, b"\r\n"),
+    (b"json", b"[[\"", 8_388_601, b"\"]]\n"),
 ];
 
 /// Asks for the name of one host in a format, with a body of the most bytes and of one more.
 fn assert_largest<R: Abort + AllocGlobal>(
     rt: &R,
-    (format, before, after): (&[u8], &[u8], &[u8]),
+    (format, before, count, after): Largest<'_>,
 ) -> Result<(), Fail> {
     let alloc = rt.alloc();
     let mut query = Vec::from_slice(alloc, b"GET hosts\nColumns: name\nOutputFormat: ")?;
     query.extend_from_slice(format)?;
     query.extend_from_slice(b"\nResponseHeader: fixed16\n\n")?;
     let front = b"define host {\n host_name ";
-    let count = 8_388_608 - before.len() - after.len();
     let most = padded(alloc, front, b'a', count, b"\n}")?;
     let within = Outside {
         file: most.as_slice(),
@@ -838,7 +840,7 @@ fn assert_largest<R: Abort + AllocGlobal>(
         &query,
         (0, reply.as_slice(), b""),
     )?;
-    let more = padded(alloc, front, b'a', count + 1, b"\n}")?;
+    let more = padded(alloc, front, b'a', count.saturating_add(1), b"\n}")?;
     let past = Outside {
         file: more.as_slice(),
         ..STEADY
@@ -849,8 +851,8 @@ fn assert_largest<R: Abort + AllocGlobal>(
 
 #[test]
 fn a_reply_has_8_388_608_bytes_at_most(rt: HostRuntime) -> Result<(), Fail> {
-    for around in AROUND {
-        assert_largest(&rt, around)?;
+    for largest in LARGEST_BODIES {
+        assert_largest(&rt, largest)?;
     }
     Ok(())
 }
