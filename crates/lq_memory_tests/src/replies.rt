@@ -1,7 +1,7 @@
 //! The rows and the cells of a state, and what queries are answered.
 
 use crate::scarce::{Call, assert_late};
-use crate::site::{COUNT, is_answer, large, live_of, request_of};
+use crate::site::{COUNT, is_answer, is_answered, large, live_of, request_of};
 use lq_columns::{host_value, names_of, service_value};
 use lq_live::Live;
 use lq_records::{HostGroupId, HostId, ServiceId, Text};
@@ -234,16 +234,6 @@ const FORMS: &[(&str, usize, &str, Around<'static>)] = &[
             back: "\",0,0,\"\",[]]]\n",
         },
     ),
-    (
-        "groups",
-        16,
-        "GET hosts\nColumns: name\nStats: state = 0\nStats: avg state",
-        Around {
-            front: "h",
-            between: ";1;0.000000\nh",
-            back: ";1;0.000000\n",
-        },
-    ),
 ];
 
 fn assert_forms<R: Abort + AllocGlobal>(rt: &R, live: &Live) -> Result<(), Fail> {
@@ -272,4 +262,42 @@ fn an_answer_wants_memory_for_its_last_lines(rt: HostRuntime) -> Result<(), Fail
     let objects = large(rt.alloc())?;
     let live = live_of(rt.alloc(), objects.as_bytes())?;
     assert_answers(&rt, &live)
+}
+
+/// A query is read and answered by a text.
+#[derive(Clone, Copy)]
+struct Read<'a> {
+    live: &'a Live,
+    query: &'a [u8],
+    text: &'a str,
+}
+
+impl Call for Read<'_> {
+    fn make(&mut self, alloc: Global) -> Result<bool, AllocError> {
+        is_answered(alloc, self.live, self.query, self.text)
+    }
+}
+
+/// Each host is a group of its own, whose one row is counted and has the state 0.
+const IN_GROUPS: Around<'static> = Around {
+    front: "h",
+    between: ";1;0.000000\nh",
+    back: ";1;0.000000\n",
+};
+
+fn assert_groups<R: Abort + AllocGlobal>(rt: &R, live: &Live) -> Result<(), Fail> {
+    let lines = lines_of_hosts(rt.alloc(), IN_GROUPS, true)?;
+    let mut call = Read {
+        live,
+        query: b"GET hosts\nColumns: name\nStats: state = 0\nStats: avg state",
+        text: lines.as_str(),
+    };
+    assert_late(rt, "groups", 16, &mut call)
+}
+
+#[test]
+fn groups_want_memory_for_their_last_keys(rt: HostRuntime) -> Result<(), Fail> {
+    let objects = large(rt.alloc())?;
+    let live = live_of(rt.alloc(), objects.as_bytes())?;
+    assert_groups(&rt, &live)
 }

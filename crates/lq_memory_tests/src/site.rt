@@ -109,6 +109,23 @@ pub(crate) fn is_reply(
     is_answer(alloc, live, &request, text)
 }
 
+/// Whether a query, which may ask for statistics, is answered by a text.
+pub(crate) fn is_answered(
+    alloc: Global,
+    live: &Live,
+    query: &[u8],
+    text: &str,
+) -> Result<bool, AllocError> {
+    match read_request(alloc, query, live.base()) {
+        Ok(request) => {
+            let reply = answer(alloc, live, &request)?;
+            Ok(reply.code == 200 && reply.bytes.as_slice() == text.as_bytes())
+        },
+        Err(ReadErr::Memory) => Err(AllocError),
+        Err(ReadErr::Refused { .. }) => Ok(false),
+    }
+}
+
 /// Whether the answer to a request that shows columns, and no statistics, is a text.
 pub(crate) fn is_answer(
     alloc: Global,
