@@ -1,7 +1,7 @@
 -- What a row is about.
 use Rattle.std.specs.Prelude.{◌≡◌, ℕ, ◌==◌, Option, Some, None, List}
 use Rattle.std.specs.List.{find, slice_get}
-use Rattle.std.specs.Option.{option_map, option_and_then}
+use Rattle.std.specs.Option.{IsSome, option_map, option_and_then}
 use Rattle.lq_records.specs.declared.base.Base.{Base}
 use Rattle.lq_records.specs.declared.base.Command.{Command}
 use Rattle.lq_records.specs.declared.base.Contact.{Contact}
@@ -70,6 +70,16 @@ row_service s row = option_and_then (service_of_object s) (row_object s row)
 -- the host that a row is about, or whose service it is about
 abbrev pub row_host : State → Row → Option HostRecord
 row_host s row = option_and_then (host_of_object s) (row_object s row)
+
+-- a row of the table of hosts, whose host stands in the base
+abbrev pub IsHost : State → Row → Type 0
+IsHost s (row.Host id) = IsSome (host_at s id)
+IsHost s row = ⊥
+
+-- a row of the table of services, whose service stands in the base
+abbrev pub IsService : State → Row → Type 0
+IsService s (row.Service id) = IsSome (service_at s id)
+IsService s row = ⊥
 
 -- a host, a service, a downtime and a comment are those that a row is about, None where it is about
 -- no such thing

@@ -1,15 +1,16 @@
 ghost use Rattle.std.specs.Prelude.{◌≡◌, ℕ, IfOk, IsOk, List};
 ghost use Rattle.std.specs.Option.{IfSome, IsSome};
 ghost use Rattle.lq_columns.specs.Names.{IsContactNamed, has_text};
-ghost use Rattle.lq_columns.specs.Plain.{IsNumber, IsText};
+ghost use Rattle.lq_columns.specs.Plain.{IsHeldByHost, IsHeldByService, IsHeldByStatus, IsNumber, IsText};
 ghost use Rattle.lq_live.specs.State.{State};
-ghost use Rattle.lq_schema.specs.Kinds.{own_kind};
+ghost use Rattle.lq_schema.specs.Kinds.{host_kind, own_kind, service_kind, status_kind};
 ghost use Rattle.lq_schema.specs.Value.{Number, Texts, Words, empty_value, shown};
 ghost use Rattle.lq_schema.specs.declared.columns.ColKind.TheVariants as column_kind;
 ghost use Rattle.lq_schema.specs.declared.columns.OwnColumn.TheVariants as own;
 ghost use Rattle.lq_schema.specs.declared.host.HostColumn.TheVariants as host_column;
 ghost use Rattle.lq_schema.specs.declared.object.ObjectColumn.TheVariants as object_column;
 ghost use Rattle.lq_schema.specs.declared.service.ServiceColumn.TheVariants as service_column;
+ghost use Rattle.lq_tables.specs.About.{IsHost, IsService};
 ghost use Rattle.lq_tables.specs.Cells.{cell_of, own_cell};
 ghost use Rattle.lq_tables.specs.Light.{IsHeld, IsLight, IsSearchedIn};
 ghost use Rattle.lq_tables.specs.Statuses.{AreOfHosts, AreOfServices};
@@ -216,8 +217,10 @@ pub fn row_number(live: &Live, row: Row, c: Col) -> Option<i128>
 /// it; None for any other row. A loop over that table's rows has no other row to look for.
 #[inline(always)]
 pub fn host_number(live: &Live, row: Row, column: HostColumn) -> Option<i128>
-    ensures { IfSome result (λ number.
+    ensures value { IfSome result (λ number.
         own_cell live.now.state row (own.Host column) ≡ Number number) }
+    ensures given { IsHost live.now.state row → IsNumber (host_kind column)
+        → IsHeldByHost column → IsSome result }
 {
     match row {
         Row::Host(id) => HostRow::at(live, id)?.number(column),
@@ -229,8 +232,10 @@ pub fn host_number(live: &Live, row: Row, column: HostColumn) -> Option<i128>
 /// gives it; None for any other row.
 #[inline(always)]
 pub fn service_number(live: &Live, row: Row, column: ServiceColumn) -> Option<i128>
-    ensures { IfSome result (λ number.
+    ensures value { IfSome result (λ number.
         own_cell live.now.state row (own.Service column) ≡ Number number) }
+    ensures given { IsService live.now.state row → IsNumber (service_kind column)
+        → IsHeldByService column → IsSome result }
 {
     match row {
         Row::Service(id) => ServiceRow::at(live, id)?.number(column),
@@ -244,6 +249,8 @@ pub fn service_number(live: &Live, row: Row, column: ServiceColumn) -> Option<i1
 pub fn host_status_number(statuses: &[Status], row: Row, column: StatusColumn) -> Option<i128>
     ensures value { (s : State) → AreOfHosts s statuses.now → IfSome result (λ number.
         own_cell s row (own.Host (host_column.Status column)) ≡ Number number) }
+    ensures given { (s : State) → AreOfHosts s statuses.now → IsHost s row
+        → IsNumber (status_kind column) → IsHeldByStatus column → IsSome result }
 {
     match row {
         Row::Host(id) => status_number(statuses.get(id.0 as usize)?, column),
@@ -257,6 +264,8 @@ pub fn host_status_number(statuses: &[Status], row: Row, column: StatusColumn) -
 pub fn service_status_number(statuses: &[Status], row: Row, column: StatusColumn) -> Option<i128>
     ensures value { (s : State) → AreOfServices s statuses.now → IfSome result (λ number.
         own_cell s row (own.Service (service_column.Status column)) ≡ Number number) }
+    ensures given { (s : State) → AreOfServices s statuses.now → IsService s row
+        → IsNumber (status_kind column) → IsHeldByStatus column → IsSome result }
 {
     match row {
         Row::Service(id) => status_number(statuses.get(id.0 as usize)?, column),
@@ -270,6 +279,7 @@ pub fn service_status_number(statuses: &[Status], row: Row, column: StatusColumn
 pub fn host_text(live: &Live, row: Row, column: HostColumn) -> Option<&str>
     ensures value { IfSome result (λ text.
         own_cell live.now.state row (own.Host column) ≡ Words text.now) }
+    ensures given { IsHost live.now.state row → IsText (host_kind column) → IsSome result }
 {
     match row {
         Row::Host(id) => HostRow::at(live, id)?.text(column),
@@ -283,6 +293,8 @@ pub fn host_text(live: &Live, row: Row, column: HostColumn) -> Option<&str>
 pub fn service_text(live: &Live, row: Row, column: ServiceColumn) -> Option<&str>
     ensures value { IfSome result (λ text.
         own_cell live.now.state row (own.Service column) ≡ Words text.now) }
+    ensures given { IsService live.now.state row → IsText (service_kind column)
+        → IsSome result }
 {
     match row {
         Row::Service(id) => ServiceRow::at(live, id)?.text(column),
@@ -352,11 +364,12 @@ fn empty_contains(kind: ColKind) -> Option<bool>
 /// other row. `contact_named` finds the contact.
 #[inline]
 pub fn host_lists_contact(live: &Live, row: Row, contact: Option<ContactId>) -> Option<bool>
-    ensures { (name : List ℕ) → IsContactNamed live.now.state.base name contact
+    ensures value { (name : List ℕ) → IsContactNamed live.now.state.base name contact
         → IfSome result (λ found. (texts : List (List ℕ))
         × (own_cell live.now.state row (own.Host (host_column.Object object_column.Contacts))
         ≡ Texts texts)
         × (found ≡ has_text name texts)) }
+    ensures given { IsHost live.now.state row → IsSome result }
 {
     match row {
         Row::Host(id) => {
@@ -371,11 +384,12 @@ pub fn host_lists_contact(live: &Live, row: Row, contact: Option<ContactId>) -> 
 /// any other row. `contact_named` finds the contact.
 #[inline]
 pub fn service_lists_contact(live: &Live, row: Row, contact: Option<ContactId>) -> Option<bool>
-    ensures { (name : List ℕ) → IsContactNamed live.now.state.base name contact
+    ensures value { (name : List ℕ) → IsContactNamed live.now.state.base name contact
         → IfSome result (λ found. (texts : List (List ℕ))
         × (own_cell live.now.state row (own.Service (service_column.Object object_column.Contacts))
         ≡ Texts texts)
         × (found ≡ has_text name texts)) }
+    ensures given { IsService live.now.state row → IsSome result }
 {
     match row {
         Row::Service(id) => {
