@@ -31,7 +31,8 @@ use Rattle.lq_schema.specs.Kinds.{host_kind, own_kind, service_kind}
 use Rattle.lq_schema.specs.Value.{Value, Number, Words, Texts, Numbers, empty_value}
 use Rattle.lq_live.specs.State.{State}
 use Rattle.lq_records.specs.Object.{is_same_object}
-use Rattle.lq_columns.specs.Names.{child_names_of, contact_group_names_of, contact_names_of, contacts_of, descriptions_of, group_names_of, host_names_of, variable_names_of, variable_values_of}
+use Rattle.lq_auth.specs.declared.view.View.{View}
+use Rattle.lq_columns.specs.Names.{child_names_of, contact_group_names_of, contact_names_of, contacts_of, descriptions_of, group_names_of, parent_names_of, variable_names_of, variable_values_of}
 use Rattle.lq_columns.specs.Counts.{hosts_counted, services_counted, worst_host, worst_service}
 use Rattle.lq_columns.specs.declared.scope.Scope.{Scope}
 use Rattle.lq_columns.specs.declared.scope.Scope.TheVariants as scope
@@ -110,30 +111,34 @@ status_cell s about status status_column.Downtimes = Numbers (downtime_ids_of s 
 -- ---- counters
 
 -- of the services of a host, of the services of the hosts that a group lists, or of the services
--- that a group lists
-abbrev pub services_cell : State → Scope → ServiceCounter → Value
-services_cell s scope service_counter.NumServices = natural (services_counted s scope counted.All)
-services_cell s scope service_counter.NumServicesOk =
-    natural (services_counted s scope (counted.In (pos 0)))
-services_cell s scope service_counter.NumServicesWarn =
-    natural (services_counted s scope (counted.In (pos 1)))
-services_cell s scope service_counter.NumServicesCrit =
-    natural (services_counted s scope (counted.In (pos 2)))
-services_cell s scope service_counter.NumServicesUnknown =
-    natural (services_counted s scope (counted.In (pos 3)))
-services_cell s scope service_counter.NumServicesPending =
-    natural (services_counted s scope counted.Pending)
-services_cell s scope service_counter.WorstServiceState = natural (worst_service s scope)
+-- that a group lists, as far as they are seen
+abbrev pub services_cell : State → View → Scope → ServiceCounter → Value
+services_cell s view scope service_counter.NumServices =
+    natural (services_counted s view scope counted.All)
+services_cell s view scope service_counter.NumServicesOk =
+    natural (services_counted s view scope (counted.In (pos 0)))
+services_cell s view scope service_counter.NumServicesWarn =
+    natural (services_counted s view scope (counted.In (pos 1)))
+services_cell s view scope service_counter.NumServicesCrit =
+    natural (services_counted s view scope (counted.In (pos 2)))
+services_cell s view scope service_counter.NumServicesUnknown =
+    natural (services_counted s view scope (counted.In (pos 3)))
+services_cell s view scope service_counter.NumServicesPending =
+    natural (services_counted s view scope counted.Pending)
+services_cell s view scope service_counter.WorstServiceState = natural (worst_service s view scope)
 
--- of the hosts that a group lists
-abbrev pub hosts_cell : State → HostGroupId → HostCounter → Value
-hosts_cell s group host_counter.NumHosts = natural (hosts_counted s group counted.All)
-hosts_cell s group host_counter.NumHostsUp = natural (hosts_counted s group (counted.In (pos 0)))
-hosts_cell s group host_counter.NumHostsDown = natural (hosts_counted s group (counted.In (pos 1)))
-hosts_cell s group host_counter.NumHostsUnreach =
-    natural (hosts_counted s group (counted.In (pos 2)))
-hosts_cell s group host_counter.NumHostsPending = natural (hosts_counted s group counted.Pending)
-hosts_cell s group host_counter.WorstHostState = natural (worst_host s group)
+-- of the hosts that a group lists, as far as they are seen
+abbrev pub hosts_cell : State → View → HostGroupId → HostCounter → Value
+hosts_cell s view group host_counter.NumHosts = natural (hosts_counted s view group counted.All)
+hosts_cell s view group host_counter.NumHostsUp =
+    natural (hosts_counted s view group (counted.In (pos 0)))
+hosts_cell s view group host_counter.NumHostsDown =
+    natural (hosts_counted s view group (counted.In (pos 1)))
+hosts_cell s view group host_counter.NumHostsUnreach =
+    natural (hosts_counted s view group (counted.In (pos 2)))
+hosts_cell s view group host_counter.NumHostsPending =
+    natural (hosts_counted s view group counted.Pending)
+hosts_cell s view group host_counter.WorstHostState = natural (worst_host s view group)
 
 -- ---- hosts
 
@@ -155,26 +160,30 @@ host_at s id =
     (slice_get s.host_status id.0))
     (slice_get s.base.hosts id.0)
 
-abbrev pub host_cell : State → HostRecord → HostColumn → Value
-host_cell s about host_column.Name = Words about.host.host_name
-host_cell s about host_column.Alias = Words about.host.alias
-host_cell s about host_column.Address = Words about.host.address
-host_cell s about (host_column.Object column) =
+abbrev pub host_cell : State → View → HostRecord → HostColumn → Value
+host_cell s view about host_column.Name = Words about.host.host_name
+host_cell s view about host_column.Alias = Words about.host.alias
+host_cell s view about host_column.Address = Words about.host.address
+host_cell s view about (host_column.Object column) =
     object_cell s.base (object.Host about.id) about.host.fields column
-host_cell s about host_column.Parents = Texts (host_names_of s.base about.host.parents)
-host_cell s about host_column.Childs = Texts (child_names_of s.base about.id)
-host_cell s about host_column.Services = Texts (descriptions_of s.base about.id)
-host_cell s about (host_column.Status column) =
+host_cell s view about host_column.Parents =
+    Texts (parent_names_of s.base view about.host)
+host_cell s view about host_column.Childs =
+    Texts (child_names_of s.base view about.id)
+host_cell s view about host_column.Services =
+    Texts (descriptions_of s.base view about.id)
+host_cell s view about (host_column.Status column) =
     status_cell s (object.Host about.id) about.status column
-host_cell s about (host_column.Counter column) = services_cell s (scope.Host about.id) column
+host_cell s view about (host_column.Counter column) =
+    services_cell s view (scope.Host about.id) column
 
 -- the value of a column of the host with an id; the empty value of its kind where there is no such
 -- host, or the column is of something else
-abbrev pub host_value : State → HostId → OwnColumn → Value
-host_value s id (own.Host column) =
-    option_map_or (λ about. host_cell s about column) (host_at s id)
+abbrev pub host_value : State → View → HostId → OwnColumn → Value
+host_value s view id (own.Host column) =
+    option_map_or (λ about. host_cell s view about column) (host_at s id)
     (empty_value (host_kind column))
-host_value s id column = empty_value (own_kind column)
+host_value s view id column = empty_value (own_kind column)
 
 -- ---- services
 

@@ -10,7 +10,9 @@ use Rattle.lq_records.specs.declared.ids.ServiceGroupId.{ServiceGroupId}
 use Rattle.lq_records.specs.declared.ids.ServiceId.{ServiceId}
 use Rattle.lq_events.specs.declared.status.Status.{Status}
 use Rattle.lq_live.specs.State.{State}
-use Rattle.lq_columns.specs.Names.{has_host}
+use Rattle.lq_auth.specs.Rights.{sees_host, sees_service_at}
+use Rattle.lq_auth.specs.declared.view.View.{View}
+use Rattle.lq_columns.specs.Names.{has_host, is_service_of}
 use Rattle.lq_columns.specs.declared.scope.Scope.{Scope}
 use Rattle.lq_columns.specs.declared.scope.Scope.TheVariants as scope
 use Rattle.lq_columns.specs.declared.counted.Counted.{Counted}
@@ -27,11 +29,6 @@ group_members base group =
 abbrev pub service_members : Base → ServiceGroupId → List ServiceId
 service_members base group =
     option_map_or (λ group. group.members) (slice_get base.service_groups group.0) []
-
--- the service at a place is one of a host
-abbrev pub is_service_of : Base → HostId → ℕ → Bool
-is_service_of base id place =
-    option_map_or (λ service. service.host.0 == id.0) (slice_get base.services place) false
 
 -- the service at a place is one of a host that a group lists
 abbrev pub is_group_service : Base → HostGroupId → ℕ → Bool
@@ -58,6 +55,14 @@ service_places base = range_with_len 0 (length base.services)
 abbrev pub scope_places : Base → Scope → List ℕ
 scope_places base scope = filter (is_in_scope base scope) (service_places base)
 
+-- the places of those of them that are seen
+abbrev pub seen_places : Base → View → Scope → List ℕ
+seen_places base view scope = filter (sees_service_at view) (scope_places base scope)
+
+-- the hosts that a group lists and that are seen
+abbrev pub seen_members : Base → View → HostGroupId → List HostId
+seen_members base view group = filter (sees_host view) (group_members base group)
+
 -- ---- counts
 
 abbrev pub is_pending : Status → Bool
@@ -72,13 +77,14 @@ counts (counted.In state) status = not (is_pending status) && int_eq status.stat
 abbrev pub counts_at : List Status → Counted → ℕ → Bool
 counts_at statuses which place = option_map_or (counts which) (slice_get statuses place) false
 
-abbrev pub services_counted : State → Scope → Counted → ℕ
-services_counted s scope which =
-    length (filter (counts_at s.service_status which) (scope_places s.base scope))
+-- services and hosts that are seen
+abbrev pub services_counted : State → View → Scope → Counted → ℕ
+services_counted s view scope which =
+    length (filter (counts_at s.service_status which) (seen_places s.base view scope))
 
-abbrev pub hosts_counted : State → HostGroupId → Counted → ℕ
-hosts_counted s group which =
-    length (filter (λ id. counts_at s.host_status which id.0) (group_members s.base group))
+abbrev pub hosts_counted : State → View → HostGroupId → Counted → ℕ
+hosts_counted s view group which =
+    length (filter (λ id. counts_at s.host_status which id.0) (seen_members s.base view group))
 
 -- ---- the worst state
 
@@ -99,14 +105,16 @@ last_after before (state ∷ states) = last_after state states
 unfoldable pub worst_of : List ℕ → List Status → ℕ
 worst_of order members = last_after 0 (filter (has_state members) order)
 
--- the worst state of the services of a scope, in the order ok, warning, unknown, critical
-abbrev pub worst_service : State → Scope → ℕ
-worst_service s scope =
+-- the worst state of the services of a scope that are seen, in the order ok, warning, unknown,
+-- critical
+abbrev pub worst_service : State → View → Scope → ℕ
+worst_service s view scope =
     worst_of (0 ∷ 1 ∷ 3 ∷ 2 ∷ [])
-    (filter_map (slice_get s.service_status) (scope_places s.base scope))
+    (filter_map (slice_get s.service_status) (seen_places s.base view scope))
 
--- the worst state of the hosts that a group lists, in the order up, unreachable, down
-abbrev pub worst_host : State → HostGroupId → ℕ
-worst_host s group =
+-- the worst state of the hosts that a group lists and that are seen, in the order up, unreachable,
+-- down
+abbrev pub worst_host : State → View → HostGroupId → ℕ
+worst_host s view group =
     worst_of (0 ∷ 2 ∷ 1 ∷ [])
-    (filter_map (λ id. slice_get s.host_status id.0) (group_members s.base group))
+    (filter_map (λ id. slice_get s.host_status id.0) (seen_members s.base view group))

@@ -1,6 +1,6 @@
 -- The names that an object goes with. An id that names nothing drops out of a list.
-use Rattle.std.specs.Prelude.{◌≡◌, ℕ, ◌==◌, Bool, false, Option, Some, None, List, [], ◌∷◌, ◌++◌, bytes_eq, nat_eq, map, drop, if◌then◌else◌}
-use Rattle.std.specs.List.{filter_map, flat_map, list_any, slice_get, starts_with}
+use Rattle.std.specs.Prelude.{◌≡◌, ℕ, ◌==◌, Bool, false, Option, Some, None, List, [], ◌∷◌, ◌++◌, bytes_eq, nat_eq, map, filter, length, drop, if◌then◌else◌}
+use Rattle.std.specs.List.{filter_map, flat_map, list_any, range_with_len, slice_get, starts_with}
 use Rattle.std.specs.Option.{option_map, option_map_or}
 use Rattle.lq_records.specs.declared.base.Base.{Base}
 use Rattle.lq_records.specs.declared.base.ObjectFields.{ObjectFields}
@@ -14,6 +14,8 @@ use Rattle.lq_records.specs.declared.ids.ContactId.{ContactId}
 use Rattle.lq_records.specs.declared.ids.ContactGroupId.{ContactGroupId}
 use Rattle.lq_records.specs.declared.object.Object.{Object}
 use Rattle.lq_records.specs.declared.object.Object.TheVariants as object
+use Rattle.lq_auth.specs.Rights.{sees_host, sees_service}
+use Rattle.lq_auth.specs.declared.view.View.{View}
 use Rattle.lq_columns.specs.Distinct.{first_of_each}
 
 -- ---- by their places
@@ -89,20 +91,45 @@ group_names_of base (object.Service id) = filter_map (name_with_service id) base
 
 -- ---- hosts and services below a host
 
-abbrev pub name_below : HostId → Host → Option (List ℕ)
-name_below id host = if has_host host.parents id then Some host.host_name else None
+-- whether a host names another one as parent
+abbrev pub is_child_of : Base → HostId → HostId → Bool
+is_child_of base id child =
+    option_map_or (λ host. has_host host.parents id) (slice_get base.hosts child.0) false
 
--- the hosts that name a host as parent
-abbrev pub child_names_of : Base → HostId → List (List ℕ)
-child_names_of base id = filter_map (name_below id) base.hosts
+abbrev pub host_ids : Base → List HostId
+host_ids base = map (λ place. record { 0 = place }) (range_with_len 0 (length base.hosts))
 
-abbrev pub description_on : HostId → Service → Option (List ℕ)
-description_on id service =
-    if service.host.0 == id.0 then Some service.service_description else None
+-- the hosts that name a host as parent, and that are seen
+abbrev pub seen_children : Base → View → HostId → List HostId
+seen_children base view id = filter (sees_host view) (filter (is_child_of base id) (host_ids base))
 
--- the descriptions of the services of a host
-abbrev pub descriptions_of : Base → HostId → List (List ℕ)
-descriptions_of base id = filter_map (description_on id) base.services
+abbrev pub child_names_of : Base → View → HostId → List (List ℕ)
+child_names_of base view id = host_names_of base (seen_children base view id)
+
+-- the hosts that a host names as parents, and that are seen
+abbrev pub parent_names_of : Base → View → Host → List (List ℕ)
+parent_names_of base view host = host_names_of base (filter (sees_host view) host.parents)
+
+-- the service at a place is one of a host
+abbrev pub is_service_of : Base → HostId → ℕ → Bool
+is_service_of base id place =
+    option_map_or (λ service. service.host.0 == id.0) (slice_get base.services place) false
+
+abbrev pub service_ids : Base → List ServiceId
+service_ids base = map (λ place. record { 0 = place }) (range_with_len 0 (length base.services))
+
+-- the services of a host that are seen
+abbrev pub seen_services : Base → View → HostId → List ServiceId
+seen_services base view id =
+    filter (sees_service view)
+    (filter (λ service. is_service_of base id service.0) (service_ids base))
+
+abbrev pub description_of : Base → ServiceId → Option (List ℕ)
+description_of base id =
+    option_map (λ service. service.service_description) (slice_get base.services id.0)
+
+abbrev pub descriptions_of : Base → View → HostId → List (List ℕ)
+descriptions_of base view id = filter_map (description_of base) (seen_services base view id)
 
 -- ---- custom variables
 

@@ -1,6 +1,7 @@
 ghost use Rattle.std.specs.Prelude.{◌≡◌, [], ◌∷◌, length, filter, map, max, fold};
 ghost use Rattle.std.specs.List.{filter_map, slice_get};
 ghost use Rattle.lq_schema.specs.Value.{shown};
+ghost use Rattle.lq_auth.specs.Rights.{sees_host};
 ghost use Rattle.lq_columns.specs.Cells.{hosts_cell, natural, services_cell};
 ghost use Rattle.lq_columns.specs.Counts.{counts_at, hosts_counted, services_counted, worst_host, worst_of, worst_service};
 ghost use Rattle.lq_columns.specs.Severity.{host_severity, severity_at};
@@ -9,6 +10,7 @@ use crate::counted::{Counted, counts_at};
 use crate::scope::Scope;
 use crate::selection::{Selection, members_of_hosts};
 use crate::severity::{host_severity_at, host_state_by};
+use lq_auth::View;
 use lq_events::Status;
 use lq_live::Live;
 use lq_records::{HostGroupId, HostId};
@@ -17,98 +19,122 @@ use std::alloc::Global;
 
 // ---- services
 
-/// The value of a counter over the services of a host, of the hosts in a group, or in a group: how
-/// many there are, how many were never checked, how many of the others are in a state, and the
-/// worst state of all. 0 where there is no such host or group. The members of a group are marked
-/// where memory allows; without it the value is the same, and takes longer.
+/// The value of a counter over the services of a host, of the hosts in a group, or in a group, as
+/// far as they are seen: how many there are, how many were never checked, how many of the others
+/// are in a state, and the worst state of all. 0 where there is no such host or group. The members
+/// of a group are marked where memory allows; without it the value is the same, and takes longer.
 pub fn services_value(
     alloc: Global,
     live: &Live,
+    view: &View,
     scope: Scope,
     column: ServiceCounter,
 ) -> Val<'static>
-    ensures { shown result ≡ services_cell live.now.state scope column }
+    ensures { shown result ≡ services_cell live.now.state view.now scope column }
 {
     match column {
-        ServiceCounter::NumServices => services_in(alloc, live, scope, Counted::All),
-        ServiceCounter::NumServicesOk => services_in(alloc, live, scope, Counted::In(0)),
-        ServiceCounter::NumServicesWarn => services_in(alloc, live, scope, Counted::In(1)),
-        ServiceCounter::NumServicesCrit => services_in(alloc, live, scope, Counted::In(2)),
-        ServiceCounter::NumServicesUnknown => services_in(alloc, live, scope, Counted::In(3)),
-        ServiceCounter::NumServicesPending => services_in(alloc, live, scope, Counted::Pending),
-        ServiceCounter::WorstServiceState => worst_service(alloc, live, scope),
+        ServiceCounter::NumServices => services_in(alloc, live, view, scope, Counted::All),
+        ServiceCounter::NumServicesOk => services_in(alloc, live, view, scope, Counted::In(0)),
+        ServiceCounter::NumServicesWarn => services_in(alloc, live, view, scope, Counted::In(1)),
+        ServiceCounter::NumServicesCrit => services_in(alloc, live, view, scope, Counted::In(2)),
+        ServiceCounter::NumServicesUnknown => services_in(alloc, live, view, scope, Counted::In(3)),
+        ServiceCounter::NumServicesPending => services_in(
+            alloc,
+            live,
+            view,
+            scope,
+            Counted::Pending,
+        ),
+        ServiceCounter::WorstServiceState => worst_service(alloc, live, view, scope),
     }
 }
 
-fn services_in(alloc: Global, live: &Live, scope: Scope, which: Counted) -> Val<'static>
-    ensures { shown result ≡ natural (services_counted live.now.state scope which) }
+fn services_in(
+    alloc: Global,
+    live: &Live,
+    view: &View,
+    scope: Scope,
+    which: Counted,
+) -> Val<'static>
+    ensures { shown result
+        ≡ natural (services_counted live.now.state view.now scope which) }
 {
-    let selection = Selection::new(alloc, live.base(), scope);
+    let selection = Selection::new(alloc, live.base(), view, scope);
     Val::Int(selection.count(live.service_statuses(), which) as i128)
 }
 
-fn worst_service(alloc: Global, live: &Live, scope: Scope) -> Val<'static>
-    ensures { shown result ≡ natural (worst_service live.now.state scope) }
+fn worst_service(alloc: Global, live: &Live, view: &View, scope: Scope) -> Val<'static>
+    ensures { shown result ≡ natural (worst_service live.now.state view.now scope) }
 {
-    let selection = Selection::new(alloc, live.base(), scope);
+    let selection = Selection::new(alloc, live.base(), view, scope);
     Val::Int(i128::from(selection.worst(live.service_statuses())))
 }
 
 // ---- hosts
 
-/// The value of a counter over the hosts in a group: how many there are, how many were never
-/// checked, how many of the others are in a state, and the worst state of all. 0 where there is no
-/// such group.
-pub fn hosts_value(live: &Live, group: HostGroupId, column: HostCounter) -> Val<'static>
-    ensures { shown result ≡ hosts_cell live.now.state group column }
+/// The value of a counter over the hosts in a group that are seen: how many there are, how many
+/// were never checked, how many of the others are in a state, and the worst state of all. 0 where
+/// there is no such group.
+pub fn hosts_value(
+    live: &Live,
+    view: &View,
+    group: HostGroupId,
+    column: HostCounter,
+) -> Val<'static>
+    ensures { shown result ≡ hosts_cell live.now.state view.now group column }
 {
     match column {
-        HostCounter::NumHosts => hosts_in(live, group, Counted::All),
-        HostCounter::NumHostsUp => hosts_in(live, group, Counted::In(0)),
-        HostCounter::NumHostsDown => hosts_in(live, group, Counted::In(1)),
-        HostCounter::NumHostsUnreach => hosts_in(live, group, Counted::In(2)),
-        HostCounter::NumHostsPending => hosts_in(live, group, Counted::Pending),
-        HostCounter::WorstHostState => worst_host(live, group),
+        HostCounter::NumHosts => hosts_in(live, view, group, Counted::All),
+        HostCounter::NumHostsUp => hosts_in(live, view, group, Counted::In(0)),
+        HostCounter::NumHostsDown => hosts_in(live, view, group, Counted::In(1)),
+        HostCounter::NumHostsUnreach => hosts_in(live, view, group, Counted::In(2)),
+        HostCounter::NumHostsPending => hosts_in(live, view, group, Counted::Pending),
+        HostCounter::WorstHostState => worst_host(live, view, group),
     }
 }
 
-fn hosts_in(live: &Live, group: HostGroupId, which: Counted) -> Val<'static>
-    ensures { shown result ≡ natural (hosts_counted live.now.state group which) }
+fn hosts_in(live: &Live, view: &View, group: HostGroupId, which: Counted) -> Val<'static>
+    ensures { shown result ≡ natural (hosts_counted live.now.state view.now group which) }
 {
     let members = members_of_hosts(live.base(), group);
-    Val::Int(count_hosts(live.host_statuses(), members, which) as i128)
+    Val::Int(count_hosts(live.host_statuses(), view, members, which) as i128)
 }
 
-fn count_hosts(statuses: &[Status], members: &[HostId], which: Counted) -> usize
-    ensures { result ≡ length (filter (λ id. counts_at statuses.now which id.0) members.now) }
+fn count_hosts(statuses: &[Status], view: &View, members: &[HostId], which: Counted) -> usize
+    ensures { result ≡ length (filter (λ id. counts_at statuses.now which id.0)
+        (filter (sees_host view.now) members.now)) }
 {
     members
         .iter()
+        .filter(|id| view.sees_host(**id))
         .filter(|id| counts_at(statuses, which, id.0 as usize))
         .count()
 }
 
-fn worst_host(live: &Live, group: HostGroupId) -> Val<'static>
-    ensures { shown result ≡ natural (worst_host live.now.state group) }
+fn worst_host(live: &Live, view: &View, group: HostGroupId) -> Val<'static>
+    ensures { shown result ≡ natural (worst_host live.now.state view.now group) }
 {
     let members = members_of_hosts(live.base(), group);
-    Val::Int(i128::from(worst_among(live.host_statuses(), members)))
+    Val::Int(i128::from(worst_among(live.host_statuses(), view, members)))
 }
 
-/// The worst state of some hosts.
-fn worst_among(statuses: &[Status], members: &[HostId]) -> u8
+/// The worst state of those of some hosts that are seen.
+fn worst_among(statuses: &[Status], view: &View, members: &[HostId]) -> u8
     ensures { result
-        ≡ worst_of (0 ∷ 2 ∷ 1 ∷ []) (filter_map (λ id. slice_get statuses.now id.0) members.now) }
+        ≡ worst_of (0 ∷ 2 ∷ 1 ∷ []) (filter_map (λ id. slice_get statuses.now id.0)
+        (filter (sees_host view.now) members.now)) }
 {
-    host_state_by(severity_among(statuses, members))
+    host_state_by(severity_among(statuses, view, members))
 }
 
-fn severity_among(statuses: &[Status], members: &[HostId]) -> u8
+fn severity_among(statuses: &[Status], view: &View, members: &[HostId]) -> u8
     ensures { result
-        ≡ fold max 0 (map (λ id. severity_at host_severity statuses.now id.0) members.now) }
+        ≡ fold max 0 (map (λ id. severity_at host_severity statuses.now id.0)
+        (filter (sees_host view.now) members.now)) }
 {
     members
         .iter()
+        .filter(|id| view.sees_host(**id))
         .map(|id| host_severity_at(statuses, id.0 as usize))
         .fold(0, |worst, severity| worst.max(severity))
 }

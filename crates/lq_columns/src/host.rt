@@ -1,5 +1,6 @@
 ghost use Rattle.std.specs.Prelude.{◌≡◌, ℕ, IfOk, IsOk, List};
 ghost use Rattle.std.specs.Option.{IfSome, IsSome, option_map};
+ghost use Rattle.lq_auth.specs.declared.view.View.{View};
 ghost use Rattle.lq_live.specs.State.{State};
 ghost use Rattle.lq_schema.specs.Kinds.{host_kind, own_kind};
 ghost use Rattle.lq_schema.specs.Value.{Number, Texts, Words, shown};
@@ -11,10 +12,11 @@ use crate::contacts::lists_contact;
 use crate::counters::services_value;
 use crate::empty::empty_value;
 use crate::monitored::Monitored;
-use crate::names::{child_names, descriptions, names_of};
+use crate::names::{child_names, descriptions, parent_names};
 use crate::object::{object_contains, object_number, object_text};
 use crate::scope::Scope;
 use crate::status::{status_number, status_text};
+use lq_auth::View;
 use lq_events::Status;
 use lq_live::Live;
 use lq_records::{Base, ContactId, Host, HostId, Memory, Object};
@@ -50,8 +52,8 @@ impl<'a> HostRow<'a> {
     /// text or a counter.
     #[inline]
     pub fn number(&self, column: HostColumn) -> Option<i128>
-        ensures value { (s : State) → IfSome result (λ number.
-            host_cell s (host_record self.now) column ≡ Number number) }
+        ensures value { (s : State) (view : View) → IfSome result (λ number.
+            host_cell s view (host_record self.now) column ≡ Number number) }
         ensures given { IsNumber (host_kind column) → IsHeldByHost column → IsSome result }
     {
         match column {
@@ -64,8 +66,8 @@ impl<'a> HostRow<'a> {
     /// The text of a column, None for a column of numbers or of lists.
     #[inline]
     pub fn text(&self, column: HostColumn) -> Option<&'a str>
-        ensures value { (s : State) → IfSome result (λ text.
-            host_cell s (host_record self.now) column ≡ Words text.now) }
+        ensures value { (s : State) (view : View) → IfSome result (λ text.
+            host_cell s view (host_record self.now) column ≡ Words text.now) }
         ensures given { IsText (host_kind column) → IsSome result }
     {
         match column {
@@ -82,9 +84,9 @@ impl<'a> HostRow<'a> {
     /// other than the contacts and the contact groups. It takes no memory.
     #[inline]
     pub fn contains(&self, base: &Base, column: HostColumn, text: &str) -> Option<bool>
-        ensures value { (s : State) → s.base ≡ base.now
+        ensures value { (s : State) (view : View) → s.base ≡ base.now
             → IfSome result (λ found. (texts : List (List ℕ))
-            × (host_cell s (host_record self.now) column ≡ Texts texts)
+            × (host_cell s view (host_record self.now) column ≡ Texts texts)
             × (found ≡ has_text text.now texts)) }
         ensures given { IsSearchedAtHost column → IsSome result }
     {
@@ -105,16 +107,18 @@ impl<'a> HostRow<'a> {
         lists_contact(base, &self.host.fields, contact)
     }
 
-    /// The value of a column at the state that the host is of. The only error is out of memory;
+    /// The value of a column at the state that the host is of, of other objects as far as a query
+    /// sees them. The only error is out of memory;
     /// numbers and single texts take none.
     pub fn value(
         &self,
         alloc: Global,
         live: &'a Live,
+        view: &View,
         column: HostColumn,
     ) -> Result<Val<'a>, Memory>
         ensures value { IfOk result (λ v.
-            shown v ≡ host_cell live.now.state (host_record self.now) column) }
+            shown v ≡ host_cell live.now.state view.now (host_record self.now) column) }
         ensures plain { IsPlain (host_kind column) → IsOk result }
     {
         let host = self.host;
@@ -130,29 +134,35 @@ impl<'a> HostRow<'a> {
             HostColumn::Alias => Val::Str(host.alias.as_str()),
             HostColumn::Address => Val::Str(host.address.as_str()),
             HostColumn::Object(column) => object.object_value(alloc, column)?,
-            HostColumn::Parents => Val::List(names_of(alloc, base, host.parents.as_slice())?),
-            HostColumn::Childs => Val::List(child_names(alloc, base, self.id)?),
-            HostColumn::Services => Val::List(descriptions(alloc, base, self.id)?),
+            HostColumn::Parents => Val::List(parent_names(alloc, base, view, host)?),
+            HostColumn::Childs => Val::List(child_names(alloc, base, view, self.id)?),
+            HostColumn::Services => Val::List(descriptions(alloc, base, view, self.id)?),
             HostColumn::Status(column) => object.status_value(alloc, column)?,
             HostColumn::Counter(column) => {
-                services_value(alloc, live, Scope::Host(self.id), column)
+                services_value(alloc, live, view, Scope::Host(self.id), column)
             }
         })
     }
 }
 
-/// The value of a column of the host with an id. Where there is no such host, or the column
-/// isn't one of hosts, it is 0, an empty text or an empty list. The only error is out of memory;
-/// numbers and single texts take none.
-pub fn host_value<'a>(alloc: Global, live: &'a Live, c: Col, id: HostId) -> Result<Val<'a>, Memory>
-    ensures value { IfOk result (λ v. shown v ≡ host_value live.now.state id c.own) }
+/// The value of a column of the host with an id, of other objects as far as a query sees them.
+/// Where there is no such host, or the column isn't one of hosts, it is 0, an empty text or an empty
+/// list. The only error is out of memory; numbers and single texts take none.
+pub fn host_value<'a>(
+    alloc: Global,
+    live: &'a Live,
+    c: Col,
+    id: HostId,
+    view: &View,
+) -> Result<Val<'a>, Memory>
+    ensures value { IfOk result (λ v. shown v ≡ host_value live.now.state view.now id c.own) }
     ensures plain { IsPlain (own_kind c.own) → IsOk result }
 {
     let OwnColumn::Host(column) = c.own else {
         return Ok(empty_value(alloc, kind(c)));
     };
     match HostRow::at(live, id) {
-        Some(row) => row.value(alloc, live, column),
+        Some(row) => row.value(alloc, live, view, column),
         None => Ok(empty_value(alloc, kind(c))),
     }
 }

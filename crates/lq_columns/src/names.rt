@@ -1,11 +1,14 @@
-ghost use Rattle.std.specs.Prelude.{◌≡◌, ◌++◌, ℕ, IfOk, List, OnOk, Option, filter_map, map, option_to_list};
+ghost use Rattle.std.specs.Prelude.{◌≡◌, ◌++◌, ◌<◌, ◌^◌, ℕ, IfOk, List, OnOk, Option, filter, filter_map, length, map, option_to_list};
+ghost use Rattle.lq_auth.specs.Rights.{sees_host};
 ghost use Rattle.lq_records.specs.declared.base.Base.{Base};
 ghost use Rattle.std.specs.Option.{option_copied};
-ghost use Rattle.lq_columns.specs.Names.{child_names_of, description_on, descriptions_of, group_names_of, has_host, has_service, has_text, is_named, name_below, name_of_contact, name_of_contact_group, name_of_host, name_with_host, name_with_service, variable_names_of, variable_values_of, without_underscore};
+ghost use Rattle.lq_columns.specs.Names.{child_names_of, description_of, descriptions_of, group_names_of, has_host, has_service, has_text, is_child_of, is_named, name_of_contact, name_of_contact_group, name_of_host, name_with_host, name_with_service, parent_names_of, seen_children, seen_services, variable_names_of, variable_values_of, without_underscore};
 
+use crate::selection::is_service_of;
+use lq_auth::View;
 use lq_records::{
     Base, ContactGroupId, ContactId, Host, HostGroup, HostId, Items, Memory, Object, ObjectFields,
-    Service, ServiceGroup, ServiceId, Text,
+    ServiceGroup, ServiceId, Text,
 };
 use std::alloc::Global;
 
@@ -26,6 +29,17 @@ impl Named for HostId {
     fn name(self, base: &Base) -> Option<&Text> {
         match base.hosts.as_slice().get(self.0 as usize) {
             Some(host) => Some(&host.host_name),
+            None => None,
+        }
+    }
+}
+
+impl Named for ServiceId {
+    ghost name_of = { description_of };
+
+    fn name(self, base: &Base) -> Option<&Text> {
+        match base.services.as_slice().get(self.0 as usize) {
+            Some(service) => Some(&service.service_description),
             None => None,
         }
     }
@@ -162,48 +176,93 @@ fn has_service(members: &[ServiceId], id: ServiceId) -> bool
 
 // ---- hosts and services below a host
 
-/// The names of the hosts that name a host as parent.
-pub(crate) fn child_names(alloc: Global, base: &Base, id: HostId) -> Result<Items<Text>, Memory>
-    ensures { IfOk result (λ names. names ≡ child_names_of base.now id) }
+/// The names of the hosts that name a host as parent, as far as they are seen.
+pub(crate) fn child_names(
+    alloc: Global,
+    base: &Base,
+    view: &View,
+    id: HostId,
+) -> Result<Items<Text>, Memory>
+    requires few { length base.now.hosts < 2 ^ 32 }
+    ensures { IfOk result (λ names. names ≡ child_names_of base.now view.now id) }
 {
-    let mut names = Items::new(alloc);
-    let hosts = base.hosts.as_slice();
-    for host in hosts {
-        push_name(&mut names, name_below(host, id))?;
-    }
-    Ok(names)
+    let children = seen_children(alloc, base, view, id)?;
+    names_of(alloc, base, &children)
 }
 
-fn name_below(host: &Host, id: HostId) -> Option<&Text>
-    ensures { option_copied result ≡ name_below id host.now }
+fn seen_children(alloc: Global, base: &Base, view: &View, id: HostId) -> Result<Vec<HostId>, Memory>
+    requires few { length base.now.hosts < 2 ^ 32 }
+    ensures { IfOk result (λ ids. ids.items ≡ seen_children base.now view.now id) }
 {
-    if has_host(host.parents.as_slice(), id) {
-        Some(&host.host_name)
-    } else {
-        None
+    (0..base.hosts.len() as u32)
+        .map(HostId)
+        .filter(|child| is_child_of(base, id, *child))
+        .filter(|child| view.sees_host(*child))
+        .collect(alloc)
+}
+
+/// Whether a host names another one as parent.
+fn is_child_of(base: &Base, id: HostId, child: HostId) -> bool
+    ensures { result ≡ is_child_of base.now id child }
+{
+    match base.hosts.as_slice().get(child.0 as usize) {
+        Some(host) => has_host(host.parents.as_slice(), id),
+        None => false,
     }
 }
 
-/// The descriptions of the services of a host.
-pub(crate) fn descriptions(alloc: Global, base: &Base, id: HostId) -> Result<Items<Text>, Memory>
-    ensures { IfOk result (λ names. names ≡ descriptions_of base.now id) }
+/// The names of the hosts that a host names as parents, as far as they are seen.
+pub(crate) fn parent_names(
+    alloc: Global,
+    base: &Base,
+    view: &View,
+    host: &Host,
+) -> Result<Items<Text>, Memory>
+    ensures { IfOk result (λ names. names ≡ parent_names_of base.now view.now host.now) }
 {
-    let mut names = Items::new(alloc);
-    let services = base.services.as_slice();
-    for service in services {
-        push_name(&mut names, description_on(service, id))?;
-    }
-    Ok(names)
+    let parents = seen_hosts(alloc, view, host.parents.as_slice())?;
+    names_of(alloc, base, &parents)
 }
 
-fn description_on(service: &Service, id: HostId) -> Option<&Text>
-    ensures { option_copied result ≡ description_on id service.now }
+/// Those of some hosts that are seen.
+pub fn seen_hosts(alloc: Global, view: &View, hosts: &[HostId]) -> Result<Vec<HostId>, Memory>
+    ensures { IfOk result (λ seen. seen.items ≡ filter (sees_host view.now) hosts.now) }
 {
-    if service.host.0 == id.0 {
-        Some(&service.service_description)
-    } else {
-        None
-    }
+    hosts
+        .iter()
+        .copied()
+        .filter(|host| view.sees_host(*host))
+        .collect(alloc)
+}
+
+/// The descriptions of the services of a host, as far as they are seen.
+pub(crate) fn descriptions(
+    alloc: Global,
+    base: &Base,
+    view: &View,
+    id: HostId,
+) -> Result<Items<Text>, Memory>
+    requires few { length base.now.services < 2 ^ 32 }
+    ensures { IfOk result (λ names. names ≡ descriptions_of base.now view.now id) }
+{
+    let services = seen_services(alloc, base, view, id)?;
+    names_of(alloc, base, &services)
+}
+
+fn seen_services(
+    alloc: Global,
+    base: &Base,
+    view: &View,
+    id: HostId,
+) -> Result<Vec<ServiceId>, Memory>
+    requires few { length base.now.services < 2 ^ 32 }
+    ensures { IfOk result (λ ids. ids.items ≡ seen_services base.now view.now id) }
+{
+    (0..base.services.len() as u32)
+        .map(ServiceId)
+        .filter(|service| is_service_of(base, id, service.0 as usize))
+        .filter(|service| view.sees_service(*service))
+        .collect(alloc)
 }
 
 // ---- custom variables

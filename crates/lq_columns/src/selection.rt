@@ -1,35 +1,44 @@
 ghost use Rattle.std.specs.Prelude.{◌≡◌, [], ◌∷◌, length, filter, map, max, fold};
 ghost use Rattle.std.specs.List.{filter_map, slice_get};
-ghost use Rattle.lq_columns.specs.Counts.{counts_at, group_lists, group_members, is_group_service, is_in_scope, is_service_of, scope_places, service_members, worst_of};
+ghost use Rattle.lq_columns.specs.Counts.{counts_at, group_lists, group_members, is_group_service, is_in_scope, seen_places, service_members, worst_of};
 ghost use Rattle.lq_columns.specs.Marks.{AreMarks, AreMarksOf, has_place};
+ghost use Rattle.lq_columns.specs.Names.{is_service_of};
 ghost use Rattle.lq_columns.specs.Severity.{service_severity, severity_at};
 
 use crate::counted::{Counted, counts_at};
 use crate::marks::{has_marked, marks_of};
 use crate::scope::Scope;
 use crate::severity::{service_severity_at, service_state_by};
+use lq_auth::View;
 use lq_events::Status;
 use lq_records::{Base, HostGroupId, HostId, ServiceGroupId, ServiceId};
 use std::alloc::Global;
 
-/// The services that a scope takes in. The members of a group are marked, so that none is looked
-/// for in the group's list.
+/// The services that a scope takes in and a query sees. The members of a group are marked, so that
+/// none is looked for in the group's list.
 #[derive(Drop)]
 pub(crate) struct Selection<'a> {
     base: &'a Base,
+    view: &'a View,
     scope: Scope,
     /// Of the hosts for a group of hosts, of the services for a group of services, else none.
     marks: Vec<bool>,
 }
 
 impl<'a> Selection<'a> {
-    pub(crate) fn new(alloc: Global, base: &'a Base, scope: Scope) -> Self
+    pub(crate) fn new(alloc: Global, base: &'a Base, view: &'a View, scope: Scope) -> Self
         ensures base { result.base.now ≡ base.now }
+        ensures view { result.view.now ≡ view.now }
         ensures scope { result.scope ≡ scope }
         ensures marks { AreMarksOf result.base.now result.scope result.marks.items }
     {
         let marks = marks_in(alloc, base, scope);
-        Selection { base, scope, marks }
+        Selection {
+            base,
+            view,
+            scope,
+            marks,
+        }
     }
 
     /// Whether the scope takes in the service at a place.
@@ -49,10 +58,11 @@ impl<'a> Selection<'a> {
         requires { AreMarksOf self.now.base.now self.now.scope self.now.marks.items }
         ensures { result
             ≡ length (filter (counts_at statuses.now which)
-            (scope_places self.now.base.now self.now.scope)) }
+            (seen_places self.now.base.now self.now.view.now self.now.scope)) }
     {
         (0..self.base.services.len())
             .filter(|place| self.has(*place))
+            .filter(|place| self.view.sees_service_at(*place))
             .filter(|place| counts_at(statuses, which, *place))
             .count()
     }
@@ -64,7 +74,7 @@ impl<'a> Selection<'a> {
         ensures { result
             ≡ worst_of (0 ∷ 1 ∷ 3 ∷ 2 ∷ [])
             (filter_map (slice_get statuses.now)
-            (scope_places self.now.base.now self.now.scope)) }
+            (seen_places self.now.base.now self.now.view.now self.now.scope)) }
     {
         service_state_by(self.severity(statuses))
     }
@@ -74,10 +84,11 @@ impl<'a> Selection<'a> {
         requires { AreMarksOf self.now.base.now self.now.scope self.now.marks.items }
         ensures { result
             ≡ fold max 0 (map (severity_at service_severity statuses.now)
-            (scope_places self.now.base.now self.now.scope)) }
+            (seen_places self.now.base.now self.now.view.now self.now.scope)) }
     {
         (0..self.base.services.len())
             .filter(|place| self.has(*place))
+            .filter(|place| self.view.sees_service_at(*place))
             .map(|place| service_severity_at(statuses, place))
             .fold(0, |worst, severity| worst.max(severity))
     }
@@ -97,7 +108,8 @@ fn marks_in(alloc: Global, base: &Base, scope: Scope) -> Vec<bool>
     }
 }
 
-fn is_service_of(base: &Base, id: HostId, place: usize) -> bool
+/// Whether the service at a place is one of a host.
+pub(crate) fn is_service_of(base: &Base, id: HostId, place: usize) -> bool
     ensures { result ≡ is_service_of base.now id place }
 {
     match base.services.as_slice().get(place) {

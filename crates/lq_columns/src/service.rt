@@ -12,6 +12,7 @@ use crate::empty::empty_value;
 use crate::monitored::Monitored;
 use crate::object::{object_contains, object_number, object_text};
 use crate::status::{status_number, status_text};
+use lq_auth::View;
 use lq_events::Status;
 use lq_live::Live;
 use lq_records::{Base, ContactId, Memory, Object, Service, ServiceId};
@@ -130,12 +131,13 @@ impl<'a> ServiceRow<'a> {
 
 /// The value of a column of the service with an id. Where there is no such service, or the column
 /// isn't one of services, it is 0, an empty text or an empty list. The only error is out of memory;
-/// numbers and single texts take none.
+/// numbers and single texts take none. No column of services depends on what a query sees.
 pub fn service_value<'a>(
     alloc: Global,
     live: &'a Live,
     c: Col,
     id: ServiceId,
+    _view: &View,
 ) -> Result<Val<'a>, Memory>
     ensures value { IfOk result (λ v. shown v ≡ service_value live.now.state id c.own) }
     ensures plain { IsPlain (own_kind c.own) → IsOk result }

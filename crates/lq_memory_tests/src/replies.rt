@@ -2,6 +2,7 @@
 
 use crate::scarce::{Call, assert_late};
 use crate::site::{COUNT, is_answer, is_answered, large, live_of, request_of};
+use lq_auth::View;
 use lq_columns::{host_value, names_of, service_value};
 use lq_live::Live;
 use lq_records::{HostGroupId, HostId, ServiceId, Text};
@@ -25,6 +26,8 @@ enum Asked {
     Contacts(Col),
     /// The names of the members of the group.
     Names,
+    /// What the last contact sees, the last service among it.
+    View,
 }
 
 /// A large site, and what is asked of it.
@@ -38,18 +41,25 @@ impl Call for Query<'_> {
     fn make(&mut self, alloc: Global) -> Result<bool, AllocError> {
         let live = self.live;
         match self.asked {
-            Asked::Rows(table, count) => Ok(rows(alloc, live, table)?.len() == count),
+            Asked::Rows(table, count) => Ok(rows(alloc, live, table, &View::All)?.len() == count),
             Asked::Members(column) => has_members(alloc, live, column),
             Asked::Services(column) => {
-                Ok(are_names_in(host_value(alloc, live, column, HostId(0))?, "s999"))
+                Ok(are_names_in(
+                    host_value(alloc, live, column, HostId(0), &View::All)?,
+                    "s999",
+                ))
             },
             Asked::Contacts(column) => {
                 Ok(are_names_in(
-                    service_value(alloc, live, column, ServiceId(1_000))?,
+                    service_value(alloc, live, column, ServiceId(1_000), &View::All)?,
                     "c999",
                 ))
             },
             Asked::Names => has_names(alloc, live),
+            Asked::View => {
+                let view = View::of(alloc, live.base(), Some("c999"))?;
+                Ok(view.sees_service(ServiceId(1_000)) && !view.sees_service(ServiceId(999)))
+            },
         }
     }
 }
@@ -69,7 +79,7 @@ fn are_names_in(value: Val<'_>, last: &str) -> bool {
 /// Whether the cell of the group has the names of all hosts.
 fn has_members(alloc: Global, live: &Live, column: Col) -> Result<bool, AllocError> {
     let row = Row::HostGroup(HostGroupId(0));
-    let members = cell(alloc, live, Table::HostGroups, column, &row)?;
+    let members = cell(alloc, live, Table::HostGroups, column, &row, &View::All)?;
     Ok(are_names_in(members, "h999"))
 }
 
@@ -122,6 +132,7 @@ fn assert_cells<R: Abort + AllocGlobal>(rt: &R, live: &Live) -> Result<(), Fail>
         ("host_value", Asked::Services(services)),
         ("service_value", Asked::Contacts(contacts)),
         ("names_of", Asked::Names),
+        ("View::of", Asked::View),
     ] {
         assert_late(rt, name, 1, &mut Query { live, asked })?;
     }

@@ -5,20 +5,22 @@ use Rattle.lq_records.specs.declared.refusal.Refusal.{Refusal}
 use Rattle.lq_schema.specs.declared.columns.Col.{Col}
 use Rattle.lq_schema.specs.Names.{full_name}
 use Rattle.lq_schema.specs.Value.{Value, Words}
+use Rattle.lq_auth.specs.Rights.{view_of}
 use Rattle.lq_live.specs.State.{State}
 use Rattle.lq_output.specs.Body.{body_text}
 use Rattle.lq_output.specs.Header.{header_text, refusal_text}
 use Rattle.lq_output.specs.declared.layout.Layout.{Layout}
 use Rattle.lq_request.specs.declared.request.Request.{Request}
 use Rattle.lq_query.specs.Groups.{group_lines}
-use Rattle.lq_query.specs.Rows.{chosen, row_cells, table_rows}
+use Rattle.lq_query.specs.Rows.{chosen, row_cells, seen_rows}
 use Rattle.lq_query.specs.declared.reply.Reply.{Reply}
 
 -- ---- lines
 
--- the rows of the query's table that its filter chooses
+-- the rows of the query's table that its user sees and its filter chooses
 abbrev pub kept : Request → State → List (Col → Value)
-kept request s = chosen request.filter (table_rows s request.table)
+kept request s =
+    chosen request.filter (seen_rows s (view_of s.base request.user) request.table)
 
 -- the first of the lines, as many as a limit says
 abbrev pub first_lines : Option ℕ → List (List Value) → List (List Value)

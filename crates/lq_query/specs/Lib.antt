@@ -3,3 +3,4 @@ pub mod Groups
 pub mod Answer
 pub mod Lines
 pub mod Counting
+pub mod Isolation

@@ -4,7 +4,9 @@ use Rattle.lq_output.specs.Body.{body_limit, body_text}
 use Rattle.lq_output.specs.Writing.{Writes, Writing}
 use Rattle.lq_schema.specs.declared.columns.Col.{Col}
 use Rattle.lq_schema.specs.Value.{Value}
+use Rattle.lq_tables.specs.Cells.{cell_of}
 use Rattle.lq_tables.specs.declared.row.Row.{Row}
+use Rattle.lq_query.specs.declared.sight.Sight.{Sight}
 use Rattle.lq_query.specs.Rows.{row_cells}
 
 -- these cells follow in the open line
@@ -33,6 +35,10 @@ IsTooLarge old lines =
     → body_limit < length (body_text old.layout (before ++ (lines ++ more)))
 
 -- ---- rows
+
+-- the values that a row has in the columns, at a state of which a query sees a part
+abbrev pub seen_cells : Sight → Row → Col → Value
+seen_cells sight = cell_of sight.live.now.state sight.view.now
 
 -- the rows that are marked
 abbrev pub marked : List Bool → List Row → List Row

@@ -5,13 +5,14 @@ use Rattle.lq_schema.specs.declared.columns.Table.{Table}
 use Rattle.lq_schema.specs.Value.{Value}
 use Rattle.lq_filter.specs.Trees.{holds, truth_on}
 use Rattle.lq_filter.specs.declared.header.Header.{Header}
+use Rattle.lq_auth.specs.declared.view.View.{View}
 use Rattle.lq_live.specs.State.{State}
 use Rattle.lq_tables.specs.Rows.{rows_of}
 use Rattle.lq_tables.specs.Cells.{cell_of}
 
--- the rows of a table in order, each as the values that it has in the columns
-abbrev pub table_rows : State → Table → List (Col → Value)
-table_rows s table = map (cell_of s) (rows_of s table)
+-- the rows of a table that a query sees, in order, each as the values that it has in the columns
+abbrev pub seen_rows : State → View → Table → List (Col → Value)
+seen_rows s view table = map (cell_of s view) (rows_of s view table)
 
 -- the rows that the headers of a filter choose
 abbrev pub chosen : List Header → List (Col → Value) → List (Col → Value)

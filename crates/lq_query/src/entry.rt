@@ -4,13 +4,13 @@ ghost use Rattle.lq_filter.specs.declared.header.Header.{Header};
 ghost use Rattle.lq_schema.specs.Value.{Number};
 ghost use Rattle.lq_stats.specs.Columns.{column_cells};
 ghost use Rattle.lq_stats.specs.declared.cell.StatCell.TheVariants as cell;
-ghost use Rattle.lq_tables.specs.Cells.{cell_of};
 ghost use Rattle.lq_query.specs.Counting.{entry_of};
 ghost use Rattle.lq_query.specs.Groups.{number_cell, stat_cell};
+ghost use Rattle.lq_query.specs.Lines.{seen_cells};
 
 use crate::selection::marks_of;
+use crate::sight::Sight;
 use lq_filter::ReadyFilter;
-use lq_live::Live;
 use lq_records::Memory;
 use lq_request::StatEntry;
 use lq_schema::{Col, Val};
@@ -29,14 +29,19 @@ pub enum ReadyEntry<'f> {
 
 impl ReadyEntry<'_> {
     /// What the statistic takes of each of some rows. The only error is out of memory.
-    pub fn cells(&mut self, alloc: Global, live: &Live, rows: &[Row]) -> Result<StatColumn, Memory>
+    pub fn cells(
+        &mut self,
+        alloc: Global,
+        sight: &Sight<'_>,
+        rows: &[Row],
+    ) -> Result<StatColumn, Memory>
         ensures cells { IfOk result (λ cells. column_cells cells
-            ≡ map (λ row. stat_cell (cell_of live.now.state row) (entry_of self.old)) rows.now) }
+            ≡ map (λ row. stat_cell (seen_cells sight.now row) (entry_of self.old)) rows.now) }
         ensures same { entry_of self.new ≡ entry_of self.old }
     {
         match self {
-            ReadyEntry::Count(filter) => counted_cells(alloc, filter, live, rows),
-            ReadyEntry::Over(_, column) => number_cells(alloc, live, rows, *column),
+            ReadyEntry::Count(filter) => counted_cells(alloc, filter, sight, rows),
+            ReadyEntry::Over(_, column) => number_cells(alloc, sight, rows, *column),
         }
     }
 }
@@ -65,48 +70,53 @@ fn ready_entry(alloc: Global, entry: &StatEntry) -> Result<ReadyEntry<'_>, Memor
 fn counted_cells(
     alloc: Global,
     filter: &mut ReadyFilter<'_>,
-    live: &Live,
+    sight: &Sight<'_>,
     rows: &[Row],
 ) -> Result<StatColumn, Memory>
     ensures cells { IfOk result (λ cells. column_cells cells
-        ≡ map (λ row. cell.Counted (holds (truth_on (cell_of live.now.state row)) filter.old))
+        ≡ map (λ row. cell.Counted (holds (truth_on (seen_cells sight.now row)) filter.old))
         rows.now) }
     ensures same { filter.new ≡ filter.old }
 {
-    let marks = marks_of(alloc, filter, live, rows)?;
+    let marks = marks_of(alloc, filter, sight, rows)?;
     Ok(StatColumn::Marks(marks))
 }
 
 /// The number that each row has in a column.
-fn number_cells(alloc: Global, live: &Live, rows: &[Row], column: Col) -> Result<StatColumn, Memory>
+fn number_cells(
+    alloc: Global,
+    sight: &Sight<'_>,
+    rows: &[Row],
+    column: Col,
+) -> Result<StatColumn, Memory>
     ensures { IfOk result (λ cells. column_cells cells
-        ≡ map (λ row. number_cell (cell_of live.now.state row column)) rows.now) }
+        ≡ map (λ row. number_cell (seen_cells sight.now row column)) rows.now) }
 {
     let mut numbers = Vec::with_capacity(alloc, rows.len())?;
     for row in rows {
-        numbers.push(row_cell(alloc, live, *row, column)?)?;
+        numbers.push(row_cell(alloc, sight, *row, column)?)?;
     }
     Ok(StatColumn::Numbers(numbers))
 }
 
 /// The number that a statistic takes of a row.
-fn row_cell(alloc: Global, live: &Live, row: Row, column: Col) -> Result<i128, Memory>
+fn row_cell(alloc: Global, sight: &Sight<'_>, row: Row, column: Col) -> Result<i128, Memory>
     ensures { IfOk result (λ number.
-        cell.Number number ≡ number_cell (cell_of live.now.state row column)) }
+        cell.Number number ≡ number_cell (seen_cells sight.now row column)) }
 {
-    match row_number(live, row, column) {
+    match row_number(sight.live, row, column) {
         Some(number) => Ok(sized(number)),
-        None => value_number(alloc, live, row, column),
+        None => value_number(alloc, sight, row, column),
     }
 }
 
 /// The same for a number that isn't found without a value, as that of a counter.
 #[inline(never)]
-fn value_number(alloc: Global, live: &Live, row: Row, column: Col) -> Result<i128, Memory>
+fn value_number(alloc: Global, sight: &Sight<'_>, row: Row, column: Col) -> Result<i128, Memory>
     ensures { IfOk result (λ number.
-        cell.Number number ≡ number_cell (cell_of live.now.state row column)) }
+        cell.Number number ≡ number_cell (seen_cells sight.now row column)) }
 {
-    match RowCells::of(live, row).value(alloc, column)? {
+    match RowCells::of(sight.live, row, sight.view).value(alloc, column)? {
         Val::Int(number) => Ok(sized(number)),
         _ => Ok(0),
     }

@@ -9,7 +9,7 @@ ghost use Rattle.lq_tables.specs.Cells.{cell_of};
 ghost use Rattle.lq_query.specs.Answer.{first_lines};
 ghost use Rattle.lq_query.specs.Counting.{Counts, counted_from, entry_of};
 ghost use Rattle.lq_query.specs.Groups.{group_lines, line_cells, stat_cell, stat_kind, stats_row, stats_spec};
-ghost use Rattle.lq_query.specs.Lines.{HasLines, IsTooLarge, marked};
+ghost use Rattle.lq_query.specs.Lines.{HasLines, IsTooLarge, seen_cells, marked};
 ghost use Rattle.lq_query.specs.Rows.{chosen, row_cells};
 
 use crate::entry::{ReadyEntry, ready_entries};
@@ -49,10 +49,10 @@ impl Page<'_> {
         requires stats { All IsStat request.now.stats }
         ensures lines { OnOk result (HasLines writer.old writer.new (first_lines request.now.limit
             (group_lines request.now.columns request.now.stats
-            (chosen request.now.filter (map (cell_of self.now.live.now.state) rows.now))))) }
+            (chosen request.now.filter (map (seen_cells self.now.sight) rows.now))))) }
         ensures large { result ≡ Err TooLarge → IsTooLarge writer.old (first_lines request.now.limit
             (group_lines request.now.columns request.now.stats
-            (chosen request.now.filter (map (cell_of self.now.live.now.state) rows.now)))) }
+            (chosen request.now.filter (map (seen_cells self.now.sight) rows.now)))) }
     {
         let lines = self.groups(request, rows)?.lines()?;
         push_group_lines(writer, first_of_lines(lines.as_slice(), request.limit))
@@ -64,7 +64,7 @@ impl Page<'_> {
         requires stats { All IsStat request.now.stats }
         ensures groups { IfOk result (λ groups. AreGroupsOf groups
             (map (stats_row request.now.columns request.now.stats)
-            (chosen request.now.filter (map (cell_of self.now.live.now.state) rows.now)))) }
+            (chosen request.now.filter (map (seen_cells self.now.sight) rows.now)))) }
         ensures spec { IfOk result
             (λ groups. groups.spec ≡ stats_spec request.now.columns request.now.stats) }
     {
@@ -89,7 +89,7 @@ impl Page<'_> {
         requires few { groups.old.count + length rows.now ≤ 2 ^ 40 }
         ensures { OnOk result (Counts groups.old groups.new
             (map (stats_row self.now.columns.now (map entry_of tally.old.entries.items))
-            (chosen tally.old.filter (map (cell_of self.now.live.now.state) rows.now)))) }
+            (chosen tally.old.filter (map (seen_cells self.now.sight) rows.now)))) }
     {
         let mut at = 0;
         'blocks: while at < rows.len() {
@@ -114,12 +114,12 @@ impl Page<'_> {
         requires few { groups.old.count + length rows.now ≤ 2 ^ 40 }
         ensures counts { OnOk result (Counts groups.old groups.new
             (map (stats_row self.now.columns.now (map entry_of tally.old.entries.items))
-            (chosen tally.old.filter (map (cell_of self.now.live.now.state) rows.now)))) }
+            (chosen tally.old.filter (map (seen_cells self.now.sight) rows.now)))) }
         ensures filter { tally.new.filter ≡ tally.old.filter }
         ensures entries { map entry_of tally.new.entries.items
             ≡ map entry_of tally.old.entries.items }
     {
-        let marks = marks_of(self.alloc, &mut tally.filter, self.live, rows)?;
+        let marks = marks_of(self.alloc, &mut tally.filter, &self.sight, rows)?;
         if !has_mark(&marks) {
             return Ok(());
         }
@@ -130,13 +130,13 @@ impl Page<'_> {
     /// What each entry takes of each row of a block.
     fn cells(&self, entries: &mut [ReadyEntry<'_>], rows: &[Row]) -> Result<Vec<StatColumn>, Memory>
         ensures cells { IfOk result (λ cells. map column_cells cells.items
-            ≡ map (λ entry. map (λ row. stat_cell (cell_of self.now.live.now.state row) entry)
+            ≡ map (λ entry. map (λ row. stat_cell (seen_cells self.now.sight row) entry)
             rows.now) (map entry_of entries.old)) }
         ensures same { map entry_of entries.new ≡ map entry_of entries.old }
     {
         let mut cells = Vec::with_capacity(self.alloc, entries.len())?;
         for place in 0..entries.len() {
-            cells.push(entries[place].cells(self.alloc, self.live, rows)?)?;
+            cells.push(entries[place].cells(self.alloc, &self.sight, rows)?)?;
         }
         Ok(cells)
     }
@@ -157,7 +157,7 @@ impl Page<'_> {
             (map column_cells cells.now) }
         requires few { groups.old.count + length rows.now ≤ 2 ^ 40 }
         ensures { OnOk result (Counts groups.old groups.new (counted_from
-            (λ row. row_cells self.now.columns.now (cell_of self.now.live.now.state row))
+            (λ row. row_cells self.now.columns.now (seen_cells self.now.sight row))
             0 marks.now rows.now (map column_cells cells.now))) }
     {
         if self.columns.is_empty() {
@@ -182,7 +182,7 @@ impl Page<'_> {
             groups.old.spec.entries (cells_at place (map column_cells cells.now)) }
         requires few { groups.old.count + length rows.now ≤ 2 ^ 40 }
         ensures { OnOk result (Counts groups.old groups.new (counted_from
-            (λ row. row_cells self.now.columns.now (cell_of self.now.live.now.state row))
+            (λ row. row_cells self.now.columns.now (seen_cells self.now.sight row))
             0 marks.now rows.now (map column_cells cells.now))) }
     {
         let mut taken = Vec::with_capacity(self.alloc, cells.len())?;
@@ -202,11 +202,11 @@ impl Page<'_> {
         requires cells { AllZip IsCellOf groups.old.spec.entries cells.now }
         requires few { groups.old.count < 2 ^ 40 }
         ensures { OnOk result (Counts groups.old groups.new (record {
-          key = row_cells self.now.columns.now (cell_of self.now.live.now.state row);
+          key = row_cells self.now.columns.now (seen_cells self.now.sight row);
           cells = cells.now;
         } ∷ [])) }
     {
-        let shown = RowCells::of(self.live, row);
+        let shown = RowCells::of(self.sight.live, row, self.sight.view);
         for column in self.columns {
             let value = shown.value(self.alloc, column.column())?;
             groups.key(&value)?;

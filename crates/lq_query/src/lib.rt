@@ -5,10 +5,13 @@
 mod column;
 mod entry;
 mod groups;
+mod isolation;
 mod line;
 mod page;
 mod reply;
 mod row_test;
 mod selection;
+mod sight;
 
+pub use isolation::replies_are_isolated;
 pub use reply::{Reply, answer};

@@ -5,12 +5,12 @@ ghost use Rattle.lq_output.specs.declared.error.WriteErr.TheVariants.{TooLarge};
 ghost use Rattle.lq_tables.specs.Cells.{cell_of};
 ghost use Rattle.lq_query.specs.Answer.{first_lines};
 ghost use Rattle.lq_query.specs.Rows.{chosen, row_cells};
-ghost use Rattle.lq_query.specs.Lines.{HasLines, IsTooLarge, first_rows, marked};
+ghost use Rattle.lq_query.specs.Lines.{HasLines, IsTooLarge, seen_cells, first_rows, marked};
 
 use crate::column::ShownColumn;
 use crate::selection::Selection;
+use crate::sight::Sight;
 use lq_filter::Filter;
-use lq_live::Live;
 use lq_output::{WriteErr, Writer};
 use lq_request::Request;
 use lq_schema::{Col, ColKind};
@@ -26,8 +26,8 @@ const BLOCK: usize = 512;
 pub struct Page<'a> {
     /// Where the values of cells take their memory.
     pub alloc: Global,
-    /// The state that is shown.
-    pub live: &'a Live,
+    /// The state that is shown, and what the query sees of it.
+    pub sight: Sight<'a>,
     /// The columns that are shown, in order.
     pub columns: &'a [ShownColumn],
 }
@@ -44,10 +44,10 @@ impl Page<'_> {
         requires some { 0 < length request.now.columns }
         ensures lines { OnOk result (HasLines writer.old writer.new (first_lines request.now.limit
             (map (row_cells request.now.columns)
-            (chosen request.now.filter (map (cell_of self.now.live.now.state) rows.now))))) }
+            (chosen request.now.filter (map (seen_cells self.now.sight) rows.now))))) }
         ensures large { result ≡ Err TooLarge → IsTooLarge writer.old
             (first_lines request.now.limit (map (row_cells request.now.columns)
-            (chosen request.now.filter (map (cell_of self.now.live.now.state) rows.now)))) }
+            (chosen request.now.filter (map (seen_cells self.now.sight) rows.now)))) }
     {
         let most = most_rows(request.limit, rows.len());
         self.push_chosen(writer, &request.filter, rows, most)
@@ -65,10 +65,10 @@ impl Page<'_> {
         requires { 0 < length self.now.columns.now }
         ensures lines { OnOk result (HasLines writer.old writer.new
             (first_rows self.now.columns.now left
-            (chosen filter.now (map (cell_of self.now.live.now.state) rows.now)))) }
+            (chosen filter.now (map (seen_cells self.now.sight) rows.now)))) }
         ensures large { result ≡ Err TooLarge → IsTooLarge writer.old
             (first_rows self.now.columns.now left
-            (chosen filter.now (map (cell_of self.now.live.now.state) rows.now))) }
+            (chosen filter.now (map (seen_cells self.now.sight) rows.now))) }
     {
         if filter.is_everything() {
             return self.push_first(writer, rows, left);
@@ -85,10 +85,10 @@ impl Page<'_> {
         requires { 0 < length self.now.columns.now }
         ensures lines { OnOk result (HasLines writer.old writer.new
             (first_rows self.now.columns.now most
-            (map (cell_of self.now.live.now.state) rows.now))) }
+            (map (seen_cells self.now.sight) rows.now))) }
         ensures large { result ≡ Err TooLarge → IsTooLarge writer.old
             (first_rows self.now.columns.now most
-            (map (cell_of self.now.live.now.state) rows.now)) }
+            (map (seen_cells self.now.sight) rows.now)) }
     {
         self.push_each(writer, first_of(rows, most))
     }
@@ -97,10 +97,10 @@ impl Page<'_> {
     fn push_each(&self, writer: &mut Writer, rows: &[Row]) -> Result<(), WriteErr>
         requires { 0 < length self.now.columns.now }
         ensures lines { OnOk result (HasLines writer.old writer.new
-            (map (λ row. row_cells self.now.columns.now (cell_of self.now.live.now.state row))
+            (map (λ row. row_cells self.now.columns.now (seen_cells self.now.sight row))
             rows.now)) }
         ensures large { result ≡ Err TooLarge → IsTooLarge writer.old
-            (map (λ row. row_cells self.now.columns.now (cell_of self.now.live.now.state row))
+            (map (λ row. row_cells self.now.columns.now (seen_cells self.now.sight row))
             rows.now) }
     {
         for row in rows {
@@ -120,10 +120,10 @@ impl Page<'_> {
         requires { 0 < length self.now.columns.now }
         ensures lines { OnOk result (HasLines writer.old writer.new
             (first_rows self.now.columns.now selection.old.left
-            (chosen selection.old.filter (map (cell_of self.now.live.now.state) rows.now)))) }
+            (chosen selection.old.filter (map (seen_cells self.now.sight) rows.now)))) }
         ensures large { result ≡ Err TooLarge → IsTooLarge writer.old
             (first_rows self.now.columns.now selection.old.left
-            (chosen selection.old.filter (map (cell_of self.now.live.now.state) rows.now))) }
+            (chosen selection.old.filter (map (seen_cells self.now.sight) rows.now))) }
     {
         let mut at = 0;
         'blocks: while at < rows.len() && selection.left > 0 {
@@ -144,16 +144,16 @@ impl Page<'_> {
         requires { 0 < length self.now.columns.now }
         ensures lines { OnOk result (HasLines writer.old writer.new
             (first_rows self.now.columns.now selection.old.left
-            (chosen selection.old.filter (map (cell_of self.now.live.now.state) rows.now)))) }
+            (chosen selection.old.filter (map (seen_cells self.now.sight) rows.now)))) }
         ensures large { result ≡ Err TooLarge → IsTooLarge writer.old
             (first_rows self.now.columns.now selection.old.left
-            (chosen selection.old.filter (map (cell_of self.now.live.now.state) rows.now))) }
+            (chosen selection.old.filter (map (seen_cells self.now.sight) rows.now))) }
         ensures left { OnOk result (selection.new.left ≡ selection.old.left
             - length (chosen selection.old.filter
-            (map (cell_of self.now.live.now.state) rows.now))) }
+            (map (seen_cells self.now.sight) rows.now))) }
         ensures same { selection.new.filter ≡ selection.old.filter }
     {
-        let marks = selection.marks(self.alloc, self.live, rows)?;
+        let marks = selection.marks(self.alloc, &self.sight, rows)?;
         if !has_mark(&marks) {
             return Ok(());
         }
@@ -172,10 +172,10 @@ impl Page<'_> {
         requires marks { length marks.now ≡ length rows.now }
         ensures lines { OnOk result (HasLines writer.old writer.new
             (first_rows self.now.columns.now selection.old.left
-            (map (cell_of self.now.live.now.state) (marked marks.now rows.now)))) }
+            (map (seen_cells self.now.sight) (marked marks.now rows.now)))) }
         ensures large { result ≡ Err TooLarge → IsTooLarge writer.old
             (first_rows self.now.columns.now selection.old.left
-            (map (cell_of self.now.live.now.state) (marked marks.now rows.now))) }
+            (map (seen_cells self.now.sight) (marked marks.now rows.now))) }
         ensures left { OnOk result (selection.new.left
             ≡ selection.old.left - length (marked marks.now rows.now)) }
         ensures same { selection.new.filter ≡ selection.old.filter }
@@ -198,10 +198,10 @@ impl Page<'_> {
         requires { 0 < length self.now.columns.now }
         ensures lines { OnOk result (HasLines writer.old writer.new
             (first_rows self.now.columns.now selection.old.left
-            (cell_of self.now.live.now.state row ∷ []))) }
+            (seen_cells self.now.sight row ∷ []))) }
         ensures large { result ≡ Err TooLarge → IsTooLarge writer.old
             (first_rows self.now.columns.now selection.old.left
-            (cell_of self.now.live.now.state row ∷ [])) }
+            (seen_cells self.now.sight row ∷ [])) }
         ensures left { selection.new.left ≡ selection.old.left - 1 }
         ensures same { selection.new.filter ≡ selection.old.filter }
     {
@@ -216,11 +216,11 @@ impl Page<'_> {
     fn push_row(&self, writer: &mut Writer, row: Row) -> Result<(), WriteErr>
         requires { 0 < length self.now.columns.now }
         ensures lines { OnOk result (HasLines writer.old writer.new
-            (row_cells self.now.columns.now (cell_of self.now.live.now.state row) ∷ [])) }
+            (row_cells self.now.columns.now (seen_cells self.now.sight row) ∷ [])) }
         ensures large { result ≡ Err TooLarge → IsTooLarge writer.old
-            (row_cells self.now.columns.now (cell_of self.now.live.now.state row) ∷ []) }
+            (row_cells self.now.columns.now (seen_cells self.now.sight row) ∷ []) }
     {
-        let cells = RowCells::of(self.live, row);
+        let cells = RowCells::of(self.sight.live, row, self.sight.view);
         self.push_cells(writer, &cells)
     }
 
@@ -228,9 +228,11 @@ impl Page<'_> {
     fn push_cells(&self, writer: &mut Writer, cells: &RowCells<'_>) -> Result<(), WriteErr>
         requires { 0 < length self.now.columns.now }
         ensures lines { OnOk result (HasLines writer.old writer.new
-            (row_cells self.now.columns.now (cell_of cells.now.state cells.now.row) ∷ [])) }
+            (row_cells self.now.columns.now
+            (cell_of cells.now.state cells.now.view cells.now.row) ∷ [])) }
         ensures large { result ≡ Err TooLarge → IsTooLarge writer.old
-            (row_cells self.now.columns.now (cell_of cells.now.state cells.now.row) ∷ []) }
+            (row_cells self.now.columns.now
+            (cell_of cells.now.state cells.now.view cells.now.row) ∷ []) }
     {
         for column in self.columns {
             self.push_cell(writer, cells, column)?;
@@ -246,11 +248,12 @@ impl Page<'_> {
         shown: &ShownColumn,
     ) -> Result<(), WriteErr>
         ensures ok { OnOk result (writer.new
-            ≡ with_cell writer.old (cell_of cells.now.state cells.now.row shown.now)) }
+            ≡ with_cell writer.old
+            (cell_of cells.now.state cells.now.view cells.now.row shown.now)) }
         ensures cell { OnOk result (AddsCell writer.old writer.new
-            (cell_of cells.now.state cells.now.row shown.now)) }
+            (cell_of cells.now.state cells.now.view cells.now.row shown.now)) }
         ensures large { result ≡ Err TooLarge → IsTooLargeWith writer.old
-            (cell_of cells.now.state cells.now.row shown.now) }
+            (cell_of cells.now.state cells.now.view cells.now.row shown.now) }
     {
         let column = shown.column();
         match shown.kind() {
@@ -275,11 +278,11 @@ impl Page<'_> {
         column: Col,
     ) -> Result<(), WriteErr>
         ensures ok { OnOk result (writer.new
-            ≡ with_cell writer.old (cell_of cells.now.state cells.now.row column)) }
+            ≡ with_cell writer.old (cell_of cells.now.state cells.now.view cells.now.row column)) }
         ensures cell { OnOk result (AddsCell writer.old writer.new
-            (cell_of cells.now.state cells.now.row column)) }
+            (cell_of cells.now.state cells.now.view cells.now.row column)) }
         ensures large { result ≡ Err TooLarge → IsTooLargeWith writer.old
-            (cell_of cells.now.state cells.now.row column) }
+            (cell_of cells.now.state cells.now.view cells.now.row column) }
     {
         let value = cells.value(self.alloc, column)?;
         writer.cell(&value)

@@ -1,15 +1,20 @@
 ghost use Rattle.std.specs.Prelude.{◌≡◌, ◌<◌, ◌≤◌, [], true, All, Err, IfOk, OnOk, length};
+ghost use Rattle.std.specs.Option.{option_copied};
+ghost use Rattle.lq_auth.specs.Rights.{view_of};
 ghost use Rattle.lq_output.specs.Body.{body_limit};
 ghost use Rattle.lq_output.specs.declared.error.WriteErr.TheVariants.{TooLarge};
 ghost use Rattle.lq_request.specs.Reading.{ShowsCells};
 ghost use Rattle.lq_request.specs.Stats.{IsStat};
 ghost use Rattle.lq_query.specs.Answer.{answer_of, first_lines, headed, kept, line_of_names, reply_body, shown_lines, too_large, with_names};
 ghost use Rattle.lq_query.specs.Lines.{HasLines, IsTooLarge};
+ghost use Rattle.lq_query.specs.Rows.{chosen, seen_rows};
 ghost use Rattle.lq_output.specs.Header.{refusal_text};
 
 use crate::column::shown_columns;
 use crate::line::push_names;
 use crate::page::Page;
+use crate::sight::Sight;
+use lq_auth::View;
 use lq_live::Live;
 use lq_output::{WriteErr, Writer, fixed16, refusal};
 use lq_records::{Items, Memory, Refusal, Text};
@@ -34,9 +39,9 @@ pub struct Reply {
 }
 
 /// Answers a query that shows a column or a statistic: 200 and the line of names where the query
-/// asks for it, then a line for each row of the table that its filter chooses, or with statistics
-/// for each group of these rows, as many as its limit says. 413 and `reply too large` where the
-/// body would have more than 8,388,608 bytes. The only error is out of memory.
+/// asks for it, then a line for each row of the table that its user sees and its filter chooses, or
+/// with statistics for each group of these rows, as many as its limit says. 413 and `reply too
+/// large` where the body would have more than 8,388,608 bytes. The only error is out of memory.
 pub fn answer(alloc: Global, live: &Live, request: &Request) -> Result<Reply, Memory>
     requires cells { ShowsCells request.now }
     requires stats { All IsStat request.now.stats }
@@ -93,17 +98,54 @@ fn push_lines(
     ensures large { result ≡ Err TooLarge → IsTooLarge writer.old (first_lines request.now.limit
         (shown_lines request.now (kept request.now live.now.state))) }
 {
+    let view = view_of(alloc, live, request)?;
+    push_seen(alloc, writer, &Sight { live, view: &view }, request)
+}
+
+/// The same by what the query sees.
+fn push_seen(
+    alloc: Global,
+    writer: &mut Writer,
+    sight: &Sight<'_>,
+    request: &Request,
+) -> Result<(), WriteErr>
+    requires cells { ShowsCells request.now }
+    requires stats { All IsStat request.now.stats }
+    ensures lines { OnOk result (HasLines writer.old writer.new (first_lines request.now.limit
+        (shown_lines request.now (chosen request.now.filter
+        (seen_rows sight.now.live.now.state sight.now.view.now request.now.table))))) }
+    ensures large { result ≡ Err TooLarge → IsTooLarge writer.old (first_lines request.now.limit
+        (shown_lines request.now (chosen request.now.filter
+        (seen_rows sight.now.live.now.state sight.now.view.now request.now.table)))) }
+{
     let columns = shown_columns(alloc, request.columns.as_slice())?;
-    let rows = rows(alloc, live, request.table)?;
+    let rows = rows(alloc, sight.live, request.table, sight.view)?;
     let page = Page {
         alloc,
-        live,
+        sight: *sight,
         columns: &columns,
     };
     if request.stats.is_empty() {
         page.push_shown(writer, request, rows.as_slice())
     } else {
         page.push_groups(writer, request, rows.as_slice())
+    }
+}
+
+/// What the query sees of a state.
+fn view_of(alloc: Global, live: &Live, request: &Request) -> Result<View, Memory>
+    ensures { IfOk result (λ view. view ≡ view_of live.now.state.base request.now.user) }
+{
+    View::of(alloc, live.base(), user_of(request))
+}
+
+/// The name of the contact who sees the reply.
+fn user_of(request: &Request) -> Option<&str>
+    ensures { option_copied result ≡ request.now.user }
+{
+    match &request.user {
+        Some(user) => Some(user.as_str()),
+        None => None,
     }
 }
 

@@ -11,10 +11,10 @@ ghost use Rattle.lq_tables.specs.Cells.{own_cell};
 ghost use Rattle.lq_tables.specs.Statuses.{AreOfHosts, AreOfServices};
 ghost use Rattle.lq_tables.specs.declared.row.Row.{Row};
 
+use crate::sight::Sight;
 use lq_columns::contact_named;
 use lq_events::Status;
 use lq_filter::{ElementCheck, NumberCheck, TextCheck};
-use lq_live::Live;
 use lq_records::ContactId;
 use lq_schema::{HostColumn, ServiceColumn, StatusColumn};
 use lq_tables::{
@@ -59,7 +59,7 @@ pub(crate) fn keep_first<T: RowTest>(test: &T, rows: &[Row], marks: &mut [bool])
 /// A test of a number of hosts.
 #[derive(Drop)]
 pub(crate) struct HostNumber<'a> {
-    pub(crate) live: &'a Live,
+    pub(crate) sight: Sight<'a>,
     pub(crate) column: HostColumn,
     pub(crate) check: NumberCheck,
 }
@@ -68,11 +68,11 @@ impl RowTest for HostNumber<'_> {
     ghost made = { λ _. ⊤ };
 
     ghost met = { λ test row. is_met (check_of_number test.check)
-        (own_cell test.live.now.state row (own.Host test.column)) };
+        (own_cell test.sight.live.now.state test.sight.view.now row (own.Host test.column)) };
 
     #[inline]
     fn is_met(&self, row: Row) -> Option<bool> {
-        match host_number(self.live, row, self.column) {
+        match host_number(self.sight.live, row, self.column) {
             Some(number) => Some(self.check.is_met(number)),
             None => None,
         }
@@ -82,7 +82,7 @@ impl RowTest for HostNumber<'_> {
 /// A test of a number of services.
 #[derive(Drop)]
 pub(crate) struct ServiceNumber<'a> {
-    pub(crate) live: &'a Live,
+    pub(crate) sight: Sight<'a>,
     pub(crate) column: ServiceColumn,
     pub(crate) check: NumberCheck,
 }
@@ -91,11 +91,11 @@ impl RowTest for ServiceNumber<'_> {
     ghost made = { λ _. ⊤ };
 
     ghost met = { λ test row. is_met (check_of_number test.check)
-        (own_cell test.live.now.state row (own.Service test.column)) };
+        (own_cell test.sight.live.now.state test.sight.view.now row (own.Service test.column)) };
 
     #[inline]
     fn is_met(&self, row: Row) -> Option<bool> {
-        match service_number(self.live, row, self.column) {
+        match service_number(self.sight.live, row, self.column) {
             Some(number) => Some(self.check.is_met(number)),
             None => None,
         }
@@ -105,7 +105,7 @@ impl RowTest for ServiceNumber<'_> {
 /// A test of a number of the statuses of hosts.
 #[derive(Drop)]
 struct HostStatus<'a> {
-    live: &'a Live,
+    sight: Sight<'a>,
     /// Those of all hosts.
     statuses: &'a [Status],
     column: StatusColumn,
@@ -113,10 +113,11 @@ struct HostStatus<'a> {
 }
 
 impl RowTest for HostStatus<'_> {
-    ghost made = { λ test. AreOfHosts test.live.now.state test.statuses.now };
+    ghost made = { λ test. AreOfHosts test.sight.live.now.state test.statuses.now };
 
     ghost met = { λ test row. is_met (check_of_number test.check)
-        (own_cell test.live.now.state row (own.Host (host_column.Status test.column))) };
+        (own_cell test.sight.live.now.state test.sight.view.now row
+        (own.Host (host_column.Status test.column))) };
 
     #[inline(always)]
     fn is_met(&self, row: Row) -> Option<bool> {
@@ -131,7 +132,7 @@ impl RowTest for HostStatus<'_> {
 /// says how many rows it looked at. The columns that hosts are counted by have a loop each, so
 /// that none of these asks at each row which column it is.
 pub(crate) fn keep_by_host_status(
-    live: &Live,
+    sight: &Sight<'_>,
     column: StatusColumn,
     check: NumberCheck,
     rows: &[Row],
@@ -140,26 +141,27 @@ pub(crate) fn keep_by_host_status(
     requires marked { length marks.old ≡ length rows.now }
     ensures within { result ≤ length rows.now }
     ensures kept { AreKeptBefore (λ row. is_met (check_of_number check)
-        (own_cell live.now.state row (own.Host (host_column.Status column))))
+        (own_cell sight.now.live.now.state sight.now.view.now row
+        (own.Host (host_column.Status column))))
         rows.now marks.old marks.new result }
 {
     match column {
-        StatusColumn::State => keep_hosts(live, StatusColumn::State, check, rows, marks),
-        StatusColumn::StateType => keep_hosts(live, StatusColumn::StateType, check, rows, marks),
+        StatusColumn::State => keep_hosts(sight, StatusColumn::State, check, rows, marks),
+        StatusColumn::StateType => keep_hosts(sight, StatusColumn::StateType, check, rows, marks),
         StatusColumn::HasBeenChecked => {
-            keep_hosts(live, StatusColumn::HasBeenChecked, check, rows, marks)
+            keep_hosts(sight, StatusColumn::HasBeenChecked, check, rows, marks)
         }
         StatusColumn::Acknowledged => {
-            keep_hosts(live, StatusColumn::Acknowledged, check, rows, marks)
+            keep_hosts(sight, StatusColumn::Acknowledged, check, rows, marks)
         }
-        _ => keep_hosts(live, column, check, rows, marks),
+        _ => keep_hosts(sight, column, check, rows, marks),
     }
 }
 
 /// The same in one loop. Where the call names the column, so does the loop.
 #[inline(always)]
 fn keep_hosts(
-    live: &Live,
+    sight: &Sight<'_>,
     column: StatusColumn,
     check: NumberCheck,
     rows: &[Row],
@@ -168,12 +170,13 @@ fn keep_hosts(
     requires marked { length marks.old ≡ length rows.now }
     ensures within { result ≤ length rows.now }
     ensures kept { AreKeptBefore (λ row. is_met (check_of_number check)
-        (own_cell live.now.state row (own.Host (host_column.Status column))))
+        (own_cell sight.now.live.now.state sight.now.view.now row
+        (own.Host (host_column.Status column))))
         rows.now marks.old marks.new result }
 {
     let test = HostStatus {
-        live,
-        statuses: live.host_statuses(),
+        sight: *sight,
+        statuses: sight.live.host_statuses(),
         column,
         check,
     };
@@ -183,7 +186,7 @@ fn keep_hosts(
 /// A test of a number of the statuses of services.
 #[derive(Drop)]
 struct ServiceStatus<'a> {
-    live: &'a Live,
+    sight: Sight<'a>,
     /// Those of all services.
     statuses: &'a [Status],
     column: StatusColumn,
@@ -191,10 +194,11 @@ struct ServiceStatus<'a> {
 }
 
 impl RowTest for ServiceStatus<'_> {
-    ghost made = { λ test. AreOfServices test.live.now.state test.statuses.now };
+    ghost made = { λ test. AreOfServices test.sight.live.now.state test.statuses.now };
 
     ghost met = { λ test row. is_met (check_of_number test.check)
-        (own_cell test.live.now.state row (own.Service (service_column.Status test.column))) };
+        (own_cell test.sight.live.now.state test.sight.view.now row
+        (own.Service (service_column.Status test.column))) };
 
     #[inline(always)]
     fn is_met(&self, row: Row) -> Option<bool> {
@@ -209,7 +213,7 @@ impl RowTest for ServiceStatus<'_> {
 /// says how many rows it looked at. The columns that services are counted by have a loop each, so
 /// that none of these asks at each row which column it is.
 pub(crate) fn keep_by_service_status(
-    live: &Live,
+    sight: &Sight<'_>,
     column: StatusColumn,
     check: NumberCheck,
     rows: &[Row],
@@ -218,28 +222,29 @@ pub(crate) fn keep_by_service_status(
     requires marked { length marks.old ≡ length rows.now }
     ensures within { result ≤ length rows.now }
     ensures kept { AreKeptBefore (λ row. is_met (check_of_number check)
-        (own_cell live.now.state row (own.Service (service_column.Status column))))
+        (own_cell sight.now.live.now.state sight.now.view.now row
+        (own.Service (service_column.Status column))))
         rows.now marks.old marks.new result }
 {
     match column {
-        StatusColumn::State => keep_services(live, StatusColumn::State, check, rows, marks),
+        StatusColumn::State => keep_services(sight, StatusColumn::State, check, rows, marks),
         StatusColumn::StateType => {
-            keep_services(live, StatusColumn::StateType, check, rows, marks)
+            keep_services(sight, StatusColumn::StateType, check, rows, marks)
         }
         StatusColumn::HasBeenChecked => {
-            keep_services(live, StatusColumn::HasBeenChecked, check, rows, marks)
+            keep_services(sight, StatusColumn::HasBeenChecked, check, rows, marks)
         }
         StatusColumn::Acknowledged => {
-            keep_services(live, StatusColumn::Acknowledged, check, rows, marks)
+            keep_services(sight, StatusColumn::Acknowledged, check, rows, marks)
         }
-        _ => keep_services(live, column, check, rows, marks),
+        _ => keep_services(sight, column, check, rows, marks),
     }
 }
 
 /// The same in one loop. Where the call names the column, so does the loop.
 #[inline(always)]
 fn keep_services(
-    live: &Live,
+    sight: &Sight<'_>,
     column: StatusColumn,
     check: NumberCheck,
     rows: &[Row],
@@ -248,12 +253,13 @@ fn keep_services(
     requires marked { length marks.old ≡ length rows.now }
     ensures within { result ≤ length rows.now }
     ensures kept { AreKeptBefore (λ row. is_met (check_of_number check)
-        (own_cell live.now.state row (own.Service (service_column.Status column))))
+        (own_cell sight.now.live.now.state sight.now.view.now row
+        (own.Service (service_column.Status column))))
         rows.now marks.old marks.new result }
 {
     let test = ServiceStatus {
-        live,
-        statuses: live.service_statuses(),
+        sight: *sight,
+        statuses: sight.live.service_statuses(),
         column,
         check,
     };
@@ -263,7 +269,7 @@ fn keep_services(
 /// A test of a text of hosts.
 #[derive(Drop)]
 pub(crate) struct HostText<'a> {
-    pub(crate) live: &'a Live,
+    pub(crate) sight: Sight<'a>,
     pub(crate) column: HostColumn,
     pub(crate) check: TextCheck<'a>,
 }
@@ -272,11 +278,11 @@ impl RowTest for HostText<'_> {
     ghost made = { λ _. ⊤ };
 
     ghost met = { λ test row. is_met (check_of_text test.check)
-        (own_cell test.live.now.state row (own.Host test.column)) };
+        (own_cell test.sight.live.now.state test.sight.view.now row (own.Host test.column)) };
 
     #[inline]
     fn is_met(&self, row: Row) -> Option<bool> {
-        match host_text(self.live, row, self.column) {
+        match host_text(self.sight.live, row, self.column) {
             Some(text) => Some(self.check.is_met(text)),
             None => None,
         }
@@ -286,7 +292,7 @@ impl RowTest for HostText<'_> {
 /// A test of a text of services.
 #[derive(Drop)]
 pub(crate) struct ServiceText<'a> {
-    pub(crate) live: &'a Live,
+    pub(crate) sight: Sight<'a>,
     pub(crate) column: ServiceColumn,
     pub(crate) check: TextCheck<'a>,
 }
@@ -295,11 +301,11 @@ impl RowTest for ServiceText<'_> {
     ghost made = { λ _. ⊤ };
 
     ghost met = { λ test row. is_met (check_of_text test.check)
-        (own_cell test.live.now.state row (own.Service test.column)) };
+        (own_cell test.sight.live.now.state test.sight.view.now row (own.Service test.column)) };
 
     #[inline]
     fn is_met(&self, row: Row) -> Option<bool> {
-        match service_text(self.live, row, self.column) {
+        match service_text(self.sight.live, row, self.column) {
             Some(text) => Some(self.check.is_met(text)),
             None => None,
         }
@@ -309,7 +315,7 @@ impl RowTest for ServiceText<'_> {
 /// A test of whether hosts have a contact.
 #[derive(Drop)]
 pub(crate) struct HostContact<'a> {
-    live: &'a Live,
+    sight: Sight<'a>,
     /// The contact that the check names.
     contact: Option<ContactId>,
     check: ElementCheck<'a>,
@@ -317,31 +323,31 @@ pub(crate) struct HostContact<'a> {
 
 impl<'a> HostContact<'a> {
     /// The test of a check at a state. The contact is looked for once.
-    pub(crate) fn of(live: &'a Live, check: ElementCheck<'a>) -> HostContact<'a>
-        ensures live { result.live.now ≡ live.now }
+    pub(crate) fn of(sight: &Sight<'a>, check: ElementCheck<'a>) -> HostContact<'a>
+        ensures sight { result.sight ≡ sight.now }
         ensures check { check_of_element result.check ≡ check_of_element check.entry }
-        ensures contact { IsContactNamed result.live.now.state.base
+        ensures contact { IsContactNamed result.sight.live.now.state.base
             result.check.element.now result.contact }
     {
         HostContact {
-            live,
-            contact: contact_named(live.base(), check.element),
+            sight: *sight,
+            contact: contact_named(sight.live.base(), check.element),
             check,
         }
     }
 }
 
 impl RowTest for HostContact<'_> {
-    ghost made = { λ test. IsContactNamed test.live.now.state.base test.check.element.now
+    ghost made = { λ test. IsContactNamed test.sight.live.now.state.base test.check.element.now
         test.contact };
 
     ghost met = { λ test row. is_met (check_of_element test.check)
-        (own_cell test.live.now.state row
+        (own_cell test.sight.live.now.state test.sight.view.now row
         (own.Host (host_column.Object object_column.Contacts))) };
 
     #[inline]
     fn is_met(&self, row: Row) -> Option<bool> {
-        match host_lists_contact(self.live, row, self.contact) {
+        match host_lists_contact(self.sight.live, row, self.contact) {
             Some(found) => Some(self.check.is_met(found)),
             None => None,
         }
@@ -351,7 +357,7 @@ impl RowTest for HostContact<'_> {
 /// A test of whether services have a contact.
 #[derive(Drop)]
 pub(crate) struct ServiceContact<'a> {
-    live: &'a Live,
+    sight: Sight<'a>,
     /// The contact that the check names.
     contact: Option<ContactId>,
     check: ElementCheck<'a>,
@@ -359,31 +365,31 @@ pub(crate) struct ServiceContact<'a> {
 
 impl<'a> ServiceContact<'a> {
     /// The test of a check at a state. The contact is looked for once.
-    pub(crate) fn of(live: &'a Live, check: ElementCheck<'a>) -> ServiceContact<'a>
-        ensures live { result.live.now ≡ live.now }
+    pub(crate) fn of(sight: &Sight<'a>, check: ElementCheck<'a>) -> ServiceContact<'a>
+        ensures sight { result.sight ≡ sight.now }
         ensures check { check_of_element result.check ≡ check_of_element check.entry }
-        ensures contact { IsContactNamed result.live.now.state.base
+        ensures contact { IsContactNamed result.sight.live.now.state.base
             result.check.element.now result.contact }
     {
         ServiceContact {
-            live,
-            contact: contact_named(live.base(), check.element),
+            sight: *sight,
+            contact: contact_named(sight.live.base(), check.element),
             check,
         }
     }
 }
 
 impl RowTest for ServiceContact<'_> {
-    ghost made = { λ test. IsContactNamed test.live.now.state.base test.check.element.now
+    ghost made = { λ test. IsContactNamed test.sight.live.now.state.base test.check.element.now
         test.contact };
 
     ghost met = { λ test row. is_met (check_of_element test.check)
-        (own_cell test.live.now.state row
+        (own_cell test.sight.live.now.state test.sight.view.now row
         (own.Service (service_column.Object object_column.Contacts))) };
 
     #[inline]
     fn is_met(&self, row: Row) -> Option<bool> {
-        match service_lists_contact(self.live, row, self.contact) {
+        match service_lists_contact(self.sight.live, row, self.contact) {
             Some(found) => Some(self.check.is_met(found)),
             None => None,
         }

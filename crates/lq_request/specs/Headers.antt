@@ -3,7 +3,7 @@ use Rattle.std.specs.Prelude.{ℕ, ◌+◌, ◌==◌, nat_lt, length, Bool, true
 use Rattle.std.specs.Prelude.{Result, Ok, Err, List, [], ◌∷◌, ◌++◌, take, drop, find, bytes_eq, codes, position, if◌then◌else◌}
 use Rattle.std.specs.List.{filter_map}
 use Rattle.std.specs.Str.{is_utf8}
-use Rattle.lq_text.specs.Blanks.{words_of}
+use Rattle.lq_text.specs.Blanks.{trimmed, words_of}
 use Rattle.lq_schema.specs.Schema.{column_of}
 use Rattle.lq_schema.specs.declared.columns.Col.{Col}
 use Rattle.lq_schema.specs.declared.columns.Table.{Table}
@@ -157,6 +157,8 @@ with_header name value draft =
     then draft_by (separators_value name value) (λ separators. record draft {
       request = record draft.request { separators = separators };
     })
+    else if bytes_eq name (codes "AuthUser")
+    then Ok (record draft { request = record draft.request { user = Some (trimmed value) } })
     else if bytes_eq name (codes "ResponseHeader")
     then draft_by (switch (codes "fixed16") name value) (λ on. draft)
     else if bytes_eq name (codes "KeepAlive")

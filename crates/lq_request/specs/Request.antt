@@ -54,6 +54,7 @@ plain style table = record {
     separators = usual_separators;
     fixed16 = style.fixed16;
     keep = style.keep;
+    user = None;
   };
   names = None;
   filter = [];

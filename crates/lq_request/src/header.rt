@@ -14,7 +14,7 @@ use crate::number::number_value;
 use crate::reason::Reason;
 use crate::request::Request;
 use crate::style::{colon_place, switch_value};
-use crate::words::{as_text, is_text, words_of};
+use crate::words::{as_text, is_text, without_end, without_front, words_of};
 use lq_filter::Stack;
 use lq_records::{Items, Memory, Text};
 use lq_schema::{Col, Table, column};
@@ -61,6 +61,10 @@ impl Draft {
             "Limit" => self.request.limit = Some(number_value(alloc, name, value)?),
             "OutputFormat" => self.request.format = format_value(alloc, name, value)?,
             "Separators" => self.request.separators = separators_value(alloc, name, value)?,
+            "AuthUser" => {
+                let user = without_end(without_front(value));
+                self.request.user = Some(Text::new(alloc, user)?);
+            }
             "ResponseHeader" => {
                 switch(alloc, "fixed16", name, value)?;
             }

@@ -47,6 +47,9 @@ pub struct Request {
     pub fixed16: bool,
     /// Whether the connection goes on after the reply.
     pub keep: bool,
+    /// The name of the contact who sees the reply: what the last `AuthUser` line says, without the
+    /// blanks around it. It may be one that no contact has. None where no line says it.
+    pub user: Option<Text>,
 }
 
 /// Why a message gives no request.
@@ -141,6 +144,7 @@ fn plain(alloc: Global, style: Style, table: Table) -> Draft
             separators: Separators::default(),
             fixed16: style.fixed16,
             keep: style.keep,
+            user: None,
         },
         names: None,
         filter: Stack::new(alloc),

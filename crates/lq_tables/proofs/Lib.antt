@@ -1,4 +1,3 @@
 pub mod Entries
 pub mod Numbered
 pub mod OwnLemmas
-pub mod StatusLemmas

@@ -1,7 +1,8 @@
 -- The only one with an id, in a list whose ids rise.
-use Rattle.std.proofs.Common.{◌≡◌, ◌≢◌, ℕ, zero, suc, ◌+◌, ◌<◌, ◌≤◌, ◌==◌, Bool, true, false, Option, Some, None, Result, Ok, Err, MatchResult, Equal, List, [], ◌∷◌, length, map, get_or, slice_get, refl, sym, ap, subst, arith, ◌∙◌, if◌then◌else◌}
+use Rattle.std.proofs.Common.{◌≡◌, ◌≢◌, ℕ, zero, suc, ◌+◌, ◌<◌, ◌≤◌, ◌==◌, Bool, true, false, Option, Some, None, Result, Ok, Err, MatchResult, Equal, List, [], ◌∷◌, length, map, filter, get_or, slice_get, refl, sym, ap, subst, arith, ◌∙◌, if◌then◌else◌}
 use Rattle.std.specs.List.{find}
 use Rattle.std.specs.List.Sorted.{IsBinarySearchResult, IsNonDecreasingBy, IsSearchInRange}
+use Rattle.std.specs.Option.{option_map, option_map_or}
 use Rattle.std.specs.Ordering.{nat_cmp, ordering_index}
 use Rattle.std.proofs.lemmas.Bool.{eq-eqb, ne_eqb}
 use Rattle.std.proofs.lemmas.Bool.Decides.{nat_tests}
@@ -13,9 +14,13 @@ use Rattle.lq_events.specs.declared.status.Comment.{Comment}
 use Rattle.lq_events.specs.declared.status.Downtime.{Downtime}
 use Rattle.lq_live.specs.Ids.{HasRisingIds, IdsRise, comment_id, downtime_id}
 use Rattle.lq_live.specs.State.{State}
-use Rattle.lq_tables.specs.About.{row_comment, row_downtime}
+use Rattle.lq_records.specs.declared.object.Object.{Object}
+use Rattle.lq_records.specs.declared.object.Object.TheVariants as object
+use Rattle.lq_auth.specs.declared.view.View.{View}
+use Rattle.lq_auth.specs.declared.view.View.TheVariants as view
+use Rattle.lq_tables.specs.About.{row_comment, row_downtime, row_object}
 use Rattle.lq_tables.specs.Own.{HasIdsRising, IsOwn, row_id}
-use Rattle.lq_tables.specs.Rows.{rows_of}
+use Rattle.lq_tables.specs.Rows.{rows_of, sees_object, sees_row}
 use Rattle.lq_tables.specs.declared.row.Row.{Row}
 use Rattle.lq_tables.specs.declared.row.Row.TheVariants as row
 
@@ -27,28 +32,38 @@ found_first id sought item items false is = rw is refl
 
 -- ---- rows
 
-found_from : {A B : Type 0} (id : A → ℕ) (about : B → Option A) (row : A → B) (least next : ℕ) (whole items : List A) → IdsRise id least next items
-    → ((item : A) → about (row item) ≡ find (λ other. id other == id item) whole)
+-- a row before others, where a test of rows and one of what they are about agree
+kept_first : {A B : Type 0} (about : B → Option A) (seen : B → Bool) (is_seen : A → Bool) (first : B) (item : A) (rows : List B) (items : List A) (is : Bool)
+    → seen first ≡ is → is_seen item ≡ is → about first ≡ Some item → map about (filter seen rows) ≡ map Some (filter is_seen items)
+    → map about (filter seen (first ∷ rows)) ≡ map Some (filter is_seen (item ∷ items))
+kept_first about seen is_seen first item rows items true row_is item_is here rest = rw (row_is, item_is, here) (ap (λ list. Some item ∷ list) rest)
+kept_first about seen is_seen first item rows items false row_is item_is here rest = rw (row_is, item_is) rest
+
+kept_from : {A B : Type 0} (id : A → ℕ) (about : B → Option A) (row : A → B) (seen : B → Bool) (is_seen : A → Bool) (least next : ℕ) (whole items : List A)
+    → IdsRise id least next items → ((item : A) → about (row item) ≡ find (λ other. id other == id item) whole)
     → ((sought : ℕ) → least ≤ sought → find (λ other. id other == sought) whole ≡ find (λ other. id other == sought) items)
-    → map about (map row items) ≡ map Some items
-found_from id about row least next whole [] rise finds same = refl
-found_from id about row least next whole (item ∷ items) rise finds same =
-    rw (finds item ∙ same (id item) rise.0 ∙ found_first id (id item) item items true (eq-eqb (id item) (id item) refl))
-    (ap (λ list. Some item ∷ list) (found_from id about row (id item + 1) next whole items rise.2 finds
+    → ((item : A) → about (row item) ≡ Some item → seen (row item) ≡ is_seen item)
+    → map about (filter seen (map row items)) ≡ map Some (filter is_seen items)
+kept_from id about row seen is_seen least next whole [] rise finds same agree = refl
+kept_from id about row seen is_seen least next whole (item ∷ items) rise finds same agree =
+    let here : about (row item) ≡ Some item = finds item ∙ same (id item) rise.0 ∙ found_first id (id item) item items true (eq-eqb (id item) (id item) refl) in
+    kept_first about seen is_seen (row item) item (map row items) items (is_seen item) (agree item here) refl here
+    (kept_from id about row seen is_seen (id item + 1) next whole items rise.2 finds
     (λ sought more. same sought (omega (arith, more, rise.0))
-    ∙ found_first id sought item items false (ne_eqb (id item) sought (λ equal. omega (arith, more, equal))))))
+    ∙ found_first id sought item items false (ne_eqb (id item) sought (λ equal. omega (arith, more, equal)))) agree)
 
--- where rows are about the first with an id, the row of each item is about it
-own_rows : {A B : Type 0} (id : A → ℕ) (about : B → Option A) (row : A → B) (next : ℕ) (items : List A) (rows : List B) → IdsRise id 0 next items
-    → ((item : A) → about (row item) ≡ find (λ other. id other == id item) items) → rows ≡ map row items → map about rows ≡ map Some items
-own_rows id about row next items rows rise finds made = ap (map about) made ∙ found_from id about row 0 next items items rise finds (λ sought more. refl)
-
-pub own_of : (s : State) (t : Table) (rows : List Row) → HasRisingIds s → rows ≡ rows_of s t → IsOwn s t rows
-own_of s table.Downtimes rows has made =
-    own_rows downtime_id (row_downtime s) (λ downtime. row.Downtime downtime.id) s.next_downtime s.downtimes rows has.downtimes (λ item. refl) made
-own_of s table.Comments rows has made =
-    own_rows comment_id (row_comment s) (λ comment. row.Comment comment.id) s.next_comment s.comments rows has.comments (λ item. refl) made
-own_of s _ rows has made = tt
+pub own_of : (s : State) (view : View) (t : Table) (rows : List Row) → HasRisingIds s → rows ≡ rows_of s view t → IsOwn s view t rows
+own_of s view table.Downtimes rows has made =
+    ap (map (row_downtime s)) made
+    ∙ kept_from downtime_id (row_downtime s) (λ downtime. row.Downtime downtime.id) (sees_row s view) (λ downtime. sees_object view downtime.object)
+    0 s.next_downtime s.downtimes s.downtimes has.downtimes (λ item. refl) (λ sought more. refl)
+    (λ item here. ap (λ (found : Option Downtime). option_map_or (sees_object view) (option_map (λ downtime. downtime.object) found) true) here)
+own_of s view table.Comments rows has made =
+    ap (map (row_comment s)) made
+    ∙ kept_from comment_id (row_comment s) (λ comment. row.Comment comment.id) (sees_row s view) (λ comment. sees_object view comment.object)
+    0 s.next_comment s.comments s.comments has.comments (λ item. refl) (λ sought more. refl)
+    (λ item here. ap (λ (found : Option Comment). option_map_or (sees_object view) (option_map (λ comment. comment.object) found) true) here)
+own_of s view _ rows has made = tt
 
 -- what a state says of its lists is so of lists that are the same
 pub has_rising : (s : State) (downtimes : List Downtime) (comments : List Comment) → downtimes ≡ s.downtimes → comments ≡ s.comments
@@ -63,12 +78,58 @@ rows_rise : {A : Type 0} (row : A → Row) (least next : ℕ) (items : List A) �
 rows_rise row least next [] rise = tt
 rows_rise row least next (item ∷ items) rise = (rise.0, rise.1, rows_rise row (row_id (row item) + 1) next items rise.2)
 
-pub rising_of : (s : State) (t : Table) (rows : List Row) → HasRisingIds s → rows ≡ rows_of s t → HasIdsRising s t rows
-rising_of s table.Downtimes rows has made =
-    subst (IdsRise row_id 0 s.next_downtime) (sym made) (rows_rise (λ downtime. row.Downtime downtime.id) 0 s.next_downtime s.downtimes has.downtimes)
-rising_of s table.Comments rows has made =
-    subst (IdsRise row_id 0 s.next_comment) (sym made) (rows_rise (λ comment. row.Comment comment.id) 0 s.next_comment s.comments has.comments)
-rising_of s _ rows has made = tt
+looser : {A : Type 0} (id : A → ℕ) (least more next : ℕ) (items : List A) → least ≤ more → IdsRise id more next items → IdsRise id least next items
+looser id least more next [] less rise = tt
+looser id least more next (item ∷ items) less rise = (omega (arith, less, rise.0), rise.1, rise.2)
+
+kept_rise_first : {A : Type 0} (id : A → ℕ) (keeps : A → Bool) (least next : ℕ) (item : A) (items : List A) (is : Bool) → keeps item ≡ is → least ≤ id item → id item < next
+    → IdsRise id (id item + 1) next (filter keeps items) → IdsRise id least next (filter keeps (item ∷ items))
+kept_rise_first id keeps least next item items true same low below rest = rw same (low, below, rest)
+kept_rise_first id keeps least next item items false same low below rest =
+    rw same (looser id least (id item + 1) next (filter keeps items) (omega (arith, low)) rest)
+
+-- ids that rise do so among those that are kept
+kept_rise : {A : Type 0} (id : A → ℕ) (keeps : A → Bool) (least next : ℕ) (items : List A) → IdsRise id least next items → IdsRise id least next (filter keeps items)
+kept_rise id keeps least next [] rise = tt
+kept_rise id keeps least next (item ∷ items) rise =
+    kept_rise_first id keeps least next item items (keeps item) refl rise.0 rise.1 (kept_rise id keeps (id item + 1) next items rise.2)
+
+pub rising_of : (s : State) (view : View) (t : Table) (rows : List Row) → HasRisingIds s → rows ≡ rows_of s view t → HasIdsRising s t rows
+rising_of s view table.Downtimes rows has made =
+    subst (IdsRise row_id 0 s.next_downtime) (sym made)
+    (kept_rise row_id (sees_row s view) 0 s.next_downtime (map (λ downtime. row.Downtime downtime.id) s.downtimes)
+    (rows_rise (λ downtime. row.Downtime downtime.id) 0 s.next_downtime s.downtimes has.downtimes))
+rising_of s view table.Comments rows has made =
+    subst (IdsRise row_id 0 s.next_comment) (sym made)
+    (kept_rise row_id (sees_row s view) 0 s.next_comment (map (λ comment. row.Comment comment.id) s.comments)
+    (rows_rise (λ comment. row.Comment comment.id) 0 s.next_comment s.comments has.comments))
+rising_of s view _ rows has made = tt
+
+-- ---- all rows are seen without a user
+
+object_seen_by_all : (found : Option Object) → option_map_or (sees_object view.All) found true ≡ true
+object_seen_by_all None = refl
+object_seen_by_all (Some (object.Host id)) = refl
+object_seen_by_all (Some (object.Service id)) = refl
+
+seen_by_all : (s : State) (row : Row) → sees_row s view.All row ≡ true
+seen_by_all s (row.Host id) = refl
+seen_by_all s (row.Service id) = refl
+seen_by_all s (row.HostGroup id) = refl
+seen_by_all s (row.ServiceGroup id) = refl
+seen_by_all s (row.HostOf group id) = refl
+seen_by_all s (row.ServiceOf group id) = refl
+seen_by_all s (row.GroupService group id) = refl
+seen_by_all s (row.Downtime id) = object_seen_by_all (row_object s (row.Downtime id))
+seen_by_all s (row.Comment id) = object_seen_by_all (row_object s (row.Comment id))
+seen_by_all s _ = refl
+
+kept_all_first : {A : Type 0} (keeps : A → Bool) (item : A) (items : List A) → keeps item ≡ true → filter keeps items ≡ items → filter keeps (item ∷ items) ≡ item ∷ items
+kept_all_first keeps item items is rest = rw is (ap (λ list. item ∷ list) rest)
+
+pub all_rows_seen : (s : State) (rows : List Row) → filter (sees_row s view.All) rows ≡ rows
+all_rows_seen s [] = refl
+all_rows_seen s (row ∷ rows) = kept_all_first (sees_row s view.All) row rows (seen_by_all s row) (all_rows_seen s rows)
 
 -- ---- the search by id
 

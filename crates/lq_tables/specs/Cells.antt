@@ -1,5 +1,5 @@
 -- The value of each cell.
-use Rattle.std.specs.Prelude.{Option, Some, None}
+use Rattle.std.specs.Prelude.{Option, Some, None, filter}
 use Rattle.std.specs.List.{filter_map, slice_get}
 use Rattle.lq_records.specs.declared.base.Base.{Base}
 use Rattle.lq_records.specs.declared.base.ContactGroup.{ContactGroup}
@@ -21,6 +21,8 @@ use Rattle.lq_records.specs.declared.ids.ServiceGroupId.{ServiceGroupId}
 use Rattle.lq_schema.specs.Kinds.{contact_group_kind, host_group_kind, host_kind, service_group_kind, service_kind}
 use Rattle.lq_schema.specs.Value.{Value, Words, Texts, Pairs, empty_value}
 use Rattle.lq_live.specs.State.{State}
+use Rattle.lq_auth.specs.Rights.{sees_host, sees_service}
+use Rattle.lq_auth.specs.declared.view.View.{View}
 use Rattle.lq_columns.specs.Names.{contact_names_of, host_names_of}
 use Rattle.lq_columns.specs.Cells.{HostRecord, ServiceRecord, host_cell, hosts_cell, service_cell, services_cell}
 use Rattle.lq_columns.specs.declared.scope.Scope.TheVariants as scope
@@ -37,45 +39,48 @@ contact_group_cell base (Some group) contact_group.Alias = Words group.alias
 contact_group_cell base (Some group) contact_group.Members =
     Texts (contact_names_of base group.members)
 
-abbrev pub host_group_cell : State → HostGroupId → Option HostGroup → HostGroupColumn → Value
-host_group_cell s id None column = empty_value (host_group_kind column)
-host_group_cell s id (Some group) host_group.Name = Words group.hostgroup_name
-host_group_cell s id (Some group) host_group.Alias = Words group.alias
-host_group_cell s id (Some group) host_group.Notes = Words group.notes
-host_group_cell s id (Some group) host_group.NotesUrl = Words group.notes_url
-host_group_cell s id (Some group) host_group.ActionUrl = Words group.action_url
-host_group_cell s id (Some group) host_group.Members = Texts (host_names_of s.base group.members)
-host_group_cell s id (Some group) (host_group.Hosts column) = hosts_cell s id column
-host_group_cell s id (Some group) (host_group.Services column) =
-    services_cell s (scope.HostGroup id) column
+-- of the hosts and services of a group those that are seen
+abbrev pub host_group_cell : State → View → HostGroupId → Option HostGroup → HostGroupColumn → Value
+host_group_cell s view id None column = empty_value (host_group_kind column)
+host_group_cell s view id (Some group) host_group.Name = Words group.hostgroup_name
+host_group_cell s view id (Some group) host_group.Alias = Words group.alias
+host_group_cell s view id (Some group) host_group.Notes = Words group.notes
+host_group_cell s view id (Some group) host_group.NotesUrl = Words group.notes_url
+host_group_cell s view id (Some group) host_group.ActionUrl = Words group.action_url
+host_group_cell s view id (Some group) host_group.Members =
+    Texts (host_names_of s.base (filter (sees_host view) group.members))
+host_group_cell s view id (Some group) (host_group.Hosts column) = hosts_cell s view id column
+host_group_cell s view id (Some group) (host_group.Services column) =
+    services_cell s view (scope.HostGroup id) column
 
-abbrev pub host_group_part : State → Option HostGroupId → HostGroupColumn → Value
-host_group_part s None column = empty_value (host_group_kind column)
-host_group_part s (Some id) column = host_group_cell s id (slice_get s.base.host_groups id.0) column
+abbrev pub host_group_part : State → View → Option HostGroupId → HostGroupColumn → Value
+host_group_part s view None column = empty_value (host_group_kind column)
+host_group_part s view (Some id) column =
+    host_group_cell s view id (slice_get s.base.host_groups id.0) column
 
-abbrev pub service_group_cell : State → ServiceGroupId → Option ServiceGroup
+abbrev pub service_group_cell : State → View → ServiceGroupId → Option ServiceGroup
     → ServiceGroupColumn → Value
-service_group_cell s id None column = empty_value (service_group_kind column)
-service_group_cell s id (Some group) service_group.Name = Words group.servicegroup_name
-service_group_cell s id (Some group) service_group.Alias = Words group.alias
-service_group_cell s id (Some group) service_group.Notes = Words group.notes
-service_group_cell s id (Some group) service_group.NotesUrl = Words group.notes_url
-service_group_cell s id (Some group) service_group.ActionUrl = Words group.action_url
-service_group_cell s id (Some group) service_group.Members =
-    Pairs (filter_map (pair_at s.base) group.members)
-service_group_cell s id (Some group) (service_group.Services column) =
-    services_cell s (scope.ServiceGroup id) column
+service_group_cell s view id None column = empty_value (service_group_kind column)
+service_group_cell s view id (Some group) service_group.Name = Words group.servicegroup_name
+service_group_cell s view id (Some group) service_group.Alias = Words group.alias
+service_group_cell s view id (Some group) service_group.Notes = Words group.notes
+service_group_cell s view id (Some group) service_group.NotesUrl = Words group.notes_url
+service_group_cell s view id (Some group) service_group.ActionUrl = Words group.action_url
+service_group_cell s view id (Some group) service_group.Members =
+    Pairs (filter_map (pair_at s.base) (filter (sees_service view) group.members))
+service_group_cell s view id (Some group) (service_group.Services column) =
+    services_cell s view (scope.ServiceGroup id) column
 
-abbrev pub service_group_part : State → Option ServiceGroupId → ServiceGroupColumn → Value
-service_group_part s None column = empty_value (service_group_kind column)
-service_group_part s (Some id) column =
-    service_group_cell s id (slice_get s.base.service_groups id.0) column
+abbrev pub service_group_part : State → View → Option ServiceGroupId → ServiceGroupColumn → Value
+service_group_part s view None column = empty_value (service_group_kind column)
+service_group_part s view (Some id) column =
+    service_group_cell s view id (slice_get s.base.service_groups id.0) column
 
 -- ---- hosts and services
 
-abbrev pub host_part : State → Option HostRecord → HostColumn → Value
-host_part s None column = empty_value (host_kind column)
-host_part s (Some about) column = host_cell s about column
+abbrev pub host_part : State → View → Option HostRecord → HostColumn → Value
+host_part s view None column = empty_value (host_kind column)
+host_part s view (Some about) column = host_cell s view about column
 
 abbrev pub service_part : State → Option ServiceRecord → ServiceColumn → Value
 service_part s None column = empty_value (service_kind column)
@@ -84,26 +89,29 @@ service_part s (Some about) column = service_cell s about column
 -- ---- all columns
 
 -- the value of a column of what it is about; the empty value of its kind where the row isn't about
--- such a thing
-abbrev pub own_cell : State → Row → OwnColumn → Value
-own_cell s row (own.Host column) = host_part s (row_host s row) column
-own_cell s row (own.Service column) = service_part s (row_service s row) column
-own_cell s row (own.HostGroup column) = host_group_part s (row_host_group row) column
-own_cell s row (own.ServiceGroup column) = service_group_part s (row_service_group row) column
-own_cell s row (own.Contact column) = contact_cell (row_contact s.base row) column
-own_cell s row (own.ContactGroup column) =
+-- such a thing. Of members, and of what counts them, a query sees what its view does
+abbrev pub own_cell : State → View → Row → OwnColumn → Value
+own_cell s view row (own.Host column) = host_part s view (row_host s row) column
+own_cell s view row (own.Service column) = service_part s (row_service s row) column
+own_cell s view row (own.HostGroup column) =
+    host_group_part s view (row_host_group row) column
+own_cell s view row (own.ServiceGroup column) =
+    service_group_part s view (row_service_group row) column
+own_cell s view row (own.Contact column) = contact_cell (row_contact s.base row) column
+own_cell s view row (own.ContactGroup column) =
     contact_group_cell s.base (row_contact_group s.base row) column
-own_cell s row (own.Command column) = command_cell (row_command s.base row) column
-own_cell s row (own.Period column) = period_cell (row_period s.base row) column
-own_cell s row (own.Downtime column) = downtime_cell (row_downtime s row) column
-own_cell s row (own.Comment column) = comment_cell (row_comment s row) column
-own_cell s row (own.Program column) = program_part s row column
-own_cell s row (own.Schema column) = schema_cell (row_entry row) column
+own_cell s view row (own.Command column) = command_cell (row_command s.base row) column
+own_cell s view row (own.Period column) = period_cell (row_period s.base row) column
+own_cell s view row (own.Downtime column) = downtime_cell (row_downtime s row) column
+own_cell s view row (own.Comment column) = comment_cell (row_comment s row) column
+own_cell s view row (own.Program column) = program_part s row column
+own_cell s view row (own.Schema column) = schema_cell (row_entry row) column
 
-abbrev pub cell_of : State → Row → Col → Value
-cell_of s row column = own_cell s row column.own
+abbrev pub cell_of : State → View → Row → Col → Value
+cell_of s view row column = own_cell s view row column.own
 
--- a row at a state
+-- a row at a state, and what a query sees of it
 pub record StateRow : Type 0 where
   pub state : State
+  pub view : View
   pub row : Row

@@ -1,19 +1,25 @@
 -- The rows of downtimes and comments, each about its own, and their ids.
-use Rattle.std.specs.Prelude.{◌≡◌, ℕ, Some, List, map}
+use Rattle.std.specs.Prelude.{◌≡◌, ℕ, Some, List, map, filter}
 use Rattle.lq_schema.specs.declared.columns.Table.{Table}
 use Rattle.lq_schema.specs.declared.columns.Table.TheVariants as table
 use Rattle.lq_live.specs.Ids.{IdsRise}
 use Rattle.lq_live.specs.State.{State}
+use Rattle.lq_auth.specs.declared.view.View.{View}
 use Rattle.lq_tables.specs.About.{row_comment, row_downtime}
+use Rattle.lq_tables.specs.Rows.{sees_object}
 use Rattle.lq_tables.specs.declared.row.Row.{Row}
 use Rattle.lq_tables.specs.declared.row.Row.TheVariants as row
 
--- the rows of the downtimes are about the downtimes, one after the other, and those of the comments
--- about the comments
-abbrev pub IsOwn : State → Table → List Row → Type 0
-IsOwn s table.Downtimes rows = map (row_downtime s) rows ≡ map Some s.downtimes
-IsOwn s table.Comments rows = map (row_comment s) rows ≡ map Some s.comments
-IsOwn s table rows = Unit {0}
+-- the rows of the downtimes are about those that are seen, one after the other, and those of the
+-- comments likewise
+abbrev pub IsOwn : State → View → Table → List Row → Type 0
+IsOwn s view table.Downtimes rows =
+    map (row_downtime s) rows
+    ≡ map Some (filter (λ downtime. sees_object view downtime.object) s.downtimes)
+IsOwn s view table.Comments rows =
+    map (row_comment s) rows
+    ≡ map Some (filter (λ comment. sees_object view comment.object) s.comments)
+IsOwn s view table rows = Unit {0}
 
 -- the id of the downtime or of the comment that a row names
 abbrev pub row_id : Row → ℕ

@@ -1,8 +1,7 @@
 -- The rows of each table, in order.
-use Rattle.std.specs.Prelude.{ℕ, ◌==◌, Bool, List, [], ◌∷◌, length, map, filter}
+use Rattle.std.specs.Prelude.{ℕ, ◌==◌, ◌&&◌, Bool, true, false, List, [], ◌∷◌, length, map, filter}
 use Rattle.std.specs.List.{enumerate_from, flat_map, range_with_len, slice_get}
 use Rattle.std.specs.Option.{option_map_or}
-use Rattle.std.specs.Prelude.{false}
 use Rattle.lq_records.specs.declared.base.HostGroup.{HostGroup}
 use Rattle.lq_records.specs.declared.base.Service.{Service}
 use Rattle.lq_records.specs.declared.base.ServiceGroup.{ServiceGroup}
@@ -10,7 +9,12 @@ use Rattle.lq_schema.specs.declared.columns.Table.{Table}
 use Rattle.lq_schema.specs.declared.columns.Table.TheVariants as table
 use Rattle.lq_records.specs.declared.ids.HostGroupId.{HostGroupId}
 use Rattle.lq_records.specs.declared.ids.HostId.{HostId}
+use Rattle.lq_records.specs.declared.object.Object.{Object}
+use Rattle.lq_records.specs.declared.object.Object.TheVariants as object
 use Rattle.lq_live.specs.State.{State}
+use Rattle.lq_auth.specs.Rights.{sees_host, sees_host_group, sees_service, sees_service_group}
+use Rattle.lq_auth.specs.declared.view.View.{View}
+use Rattle.lq_tables.specs.About.{row_object}
 use Rattle.lq_tables.specs.Schema.{schema}
 use Rattle.lq_tables.specs.declared.row.Row.{Row}
 use Rattle.lq_tables.specs.declared.row.Row.TheVariants as row
@@ -50,27 +54,49 @@ group_service_rows services (place, group) =
 
 -- ---- tables
 
-abbrev pub rows_of : State → Table → List Row
-rows_of s table.Hosts = map (λ place. row.Host (record { 0 = place })) (places_of s.base.hosts)
-rows_of s table.Services =
+-- all rows of a table, whoever asks
+abbrev pub table_rows : State → Table → List Row
+table_rows s table.Hosts = map (λ place. row.Host (record { 0 = place })) (places_of s.base.hosts)
+table_rows s table.Services =
     map (λ place. row.Service (record { 0 = place })) (places_of s.base.services)
-rows_of s table.HostGroups =
+table_rows s table.HostGroups =
     map (λ place. row.HostGroup (record { 0 = place })) (places_of s.base.host_groups)
-rows_of s table.ServiceGroups =
+table_rows s table.ServiceGroups =
     map (λ place. row.ServiceGroup (record { 0 = place })) (places_of s.base.service_groups)
-rows_of s table.Contacts =
+table_rows s table.Contacts =
     map (λ place. row.Contact (record { 0 = place })) (places_of s.base.contacts)
-rows_of s table.ContactGroups =
+table_rows s table.ContactGroups =
     map (λ place. row.ContactGroup (record { 0 = place })) (places_of s.base.contact_groups)
-rows_of s table.Commands =
+table_rows s table.Commands =
     map (λ place. row.Command (record { 0 = place })) (places_of s.base.commands)
-rows_of s table.TimePeriods =
+table_rows s table.TimePeriods =
     map (λ place. row.Period (record { 0 = place })) (places_of s.base.periods)
-rows_of s table.Downtimes = map (λ downtime. row.Downtime downtime.id) s.downtimes
-rows_of s table.Comments = map (λ comment. row.Comment comment.id) s.comments
-rows_of s table.Status = row.Status ∷ []
-rows_of s table.Columns = map row.Column (places_of schema)
-rows_of s table.HostsByGroup = flat_map host_group_rows (numbered s.base.host_groups)
-rows_of s table.ServicesByGroup = flat_map service_group_rows (numbered s.base.service_groups)
-rows_of s table.ServicesByHostGroup =
+table_rows s table.Downtimes = map (λ downtime. row.Downtime downtime.id) s.downtimes
+table_rows s table.Comments = map (λ comment. row.Comment comment.id) s.comments
+table_rows s table.Status = row.Status ∷ []
+table_rows s table.Columns = map row.Column (places_of schema)
+table_rows s table.HostsByGroup = flat_map host_group_rows (numbered s.base.host_groups)
+table_rows s table.ServicesByGroup = flat_map service_group_rows (numbered s.base.service_groups)
+table_rows s table.ServicesByHostGroup =
     flat_map (group_service_rows s.base.services) (numbered s.base.host_groups)
+
+-- ---- rights
+
+-- a host or a service
+abbrev pub sees_object : View → Object → Bool
+sees_object view (object.Host id) = sees_host view id
+sees_object view (object.Service id) = sees_service view id
+
+-- a group is seen by itself, a pair of a group and an object where both are, any other row where
+-- the host or the service is seen that it is about; rows about none are seen by all
+abbrev pub sees_row : State → View → Row → Bool
+sees_row s view (row.HostGroup id) = sees_host_group view id
+sees_row s view (row.ServiceGroup id) = sees_service_group view id
+sees_row s view (row.HostOf group id) = sees_host_group view group && sees_host view id
+sees_row s view (row.ServiceOf group id) = sees_service_group view group && sees_service view id
+sees_row s view (row.GroupService group id) = sees_host_group view group && sees_service view id
+sees_row s view row = option_map_or (sees_object view) (row_object s row) true
+
+-- the rows of a table that a query sees
+abbrev pub rows_of : State → View → Table → List Row
+rows_of s view table = filter (sees_row s view) (table_rows s table)

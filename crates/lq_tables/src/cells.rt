@@ -1,5 +1,6 @@
 ghost use Rattle.std.specs.Prelude.{◌≡◌, ℕ, IfOk, IsOk, List};
 ghost use Rattle.std.specs.Option.{IfSome, IsSome};
+ghost use Rattle.lq_auth.specs.declared.view.View.{View};
 ghost use Rattle.lq_columns.specs.Names.{IsContactNamed, has_text};
 ghost use Rattle.lq_columns.specs.Plain.{IsHeldByHost, IsHeldByService, IsHeldByStatus, IsNumber, IsText};
 ghost use Rattle.lq_live.specs.State.{State};
@@ -29,6 +30,7 @@ use crate::remarks::{
     comment_number, comment_text, comment_value, downtime_number, downtime_text, downtime_value,
 };
 use crate::row::Row;
+use lq_auth::View;
 use lq_columns::{HostRow, ServiceRow, empty_number, empty_text, empty_value, status_number};
 use lq_events::{Comment, Downtime, Status};
 use lq_live::Live;
@@ -40,13 +42,15 @@ use std::alloc::Global;
 use std::marker::Model;
 
 /// The cells of a row at a state. The host, service, downtime or comment that the row is about is
-/// found once, and not again at each cell. Contracts see it as the state and the row.
+/// found once, and not again at each cell. Contracts see it as the state, what a query
+/// sees of it, and the row.
 ///
 /// Where the row is about nothing of a column's kind, as a host's comment about no service, its
 /// cell is 0, an empty text or an empty list.
 #[derive(Drop)]
 pub struct RowCells<'a> {
     live: &'a Live,
+    view: &'a View,
     row: Row,
     host: Option<HostRow<'a>>,
     service: Option<ServiceRow<'a>>,
@@ -62,7 +66,11 @@ impl<'a> Model for RowCells<'a> {
 
     ghost Value = { StateRow };
 
-    ghost view = { λ cells. record { state = cells.live.now.state; row = cells.row } };
+    ghost view = { λ cells. record {
+      state = cells.live.now.state;
+      view = cells.view.now;
+      row = cells.row;
+    } };
 
     ghost invariant = { λ cells. IsAbout cells.live.now.state cells.row
         (option_map host_record cells.host) (option_map service_record cells.service)
@@ -70,14 +78,15 @@ impl<'a> Model for RowCells<'a> {
 }
 
 impl<'a> RowCells<'a> {
-    /// The cells of a row.
+    /// The cells of a row, of other objects as far as a query sees them.
     #[inline]
-    pub fn of(live: &'a Live, row: Row) -> RowCells<'a>
-        ensures { result ≡ record { state = live.now.state; row = row } }
+    pub fn of(live: &'a Live, row: Row, view: &'a View) -> RowCells<'a>
+        ensures { result ≡ record { state = live.now.state; view = view.now; row = row } }
     {
         let object = row_object(live, row);
         RowCells {
             live,
+            view,
             row,
             host: host_of(live, object),
             service: service_of(live, object),
@@ -87,12 +96,12 @@ impl<'a> RowCells<'a> {
     }
 
     /// The number of a cell that is found without a look at other objects, None for any other cell:
-    /// a text or a list, a counter, how many downtimes hold. It is what `value` gives, and takes no
-    /// memory.
+    /// a text or a list, a counter, how many downtimes hold. It is what `value` gives, whatever a
+    /// query sees, and takes no memory.
     #[inline]
     pub fn number(&self, c: Col) -> Option<i128>
-        ensures value { IfSome result (λ number.
-            cell_of self.now.state self.now.row c ≡ Number number) }
+        ensures value { (view : View) → IfSome result (λ number.
+            cell_of self.now.state view self.now.row c ≡ Number number) }
         ensures given { IsNumber (own_kind c.own) → IsHeld c.own → IsSome result }
     {
         match c.own {
@@ -112,12 +121,12 @@ impl<'a> RowCells<'a> {
     }
 
     /// The text of a cell that the state holds as it is, None for any other cell: a number or a
-    /// list, and the whole name of a column, which is put together. It is what `value` gives, and
-    /// takes no memory.
+    /// list, and the whole name of a column, which is put together. It is what `value` gives,
+    /// whatever a query sees, and takes no memory.
     #[inline]
     pub fn text(&self, c: Col) -> Option<&'a str>
-        ensures value { IfSome result (λ text.
-            cell_of self.now.state self.now.row c ≡ Words text.now) }
+        ensures value { (view : View) → IfSome result (λ text.
+            cell_of self.now.state view self.now.row c ≡ Words text.now) }
         ensures given { IsText (own_kind c.own) → IsLight c.own → IsSome result }
     {
         let (live, row) = (self.live, self.row);
@@ -151,14 +160,15 @@ impl<'a> RowCells<'a> {
     /// The value of a cell. Lists, and the names of columns, take memory, and running out of it is
     /// the only error.
     pub fn value(&self, alloc: Global, c: Col) -> Result<Val<'a>, Memory>
-        ensures value { IfOk result (λ v. shown v ≡ cell_of self.now.state self.now.row c) }
+        ensures value { IfOk result (λ v.
+            shown v ≡ cell_of self.now.state self.now.view self.now.row c) }
         ensures plain { IsLight c.own → IsOk result }
     {
-        let (live, row) = (self.live, self.row);
+        let (live, row, view) = (self.live, self.row, self.view);
         let base = live.base();
         match c.own {
             OwnColumn::Host(column) => match self.host {
-                Some(host) => host.value(alloc, live, column),
+                Some(host) => host.value(alloc, live, view, column),
                 None => Ok(empty_value(alloc, kind(c))),
             },
             OwnColumn::Service(column) => match self.service {
@@ -166,10 +176,10 @@ impl<'a> RowCells<'a> {
                 None => Ok(empty_value(alloc, kind(c))),
             },
             OwnColumn::HostGroup(column) => {
-                host_group_value(alloc, live, row_host_group(row), column)
+                host_group_value(alloc, live, view, row_host_group(row), column)
             }
             OwnColumn::ServiceGroup(column) => {
-                service_group_value(alloc, live, row_service_group(row), column)
+                service_group_value(alloc, live, view, row_service_group(row), column)
             }
             OwnColumn::Contact(column) => {
                 Ok(Val::Str(contact_text(row_contact(base, row), column)))
@@ -195,7 +205,8 @@ impl<'a> RowCells<'a> {
 /// are looked at it takes less: it finds alone what the column is about.
 #[inline]
 pub fn row_number(live: &Live, row: Row, c: Col) -> Option<i128>
-    ensures value { IfSome result (λ number. cell_of live.now.state row c ≡ Number number) }
+    ensures value { (view : View) → IfSome result (λ number.
+        cell_of live.now.state view row c ≡ Number number) }
     ensures given { IsNumber (own_kind c.own) → IsHeld c.own → IsSome result }
 {
     match c.own {
@@ -209,7 +220,8 @@ pub fn row_number(live: &Live, row: Row, c: Col) -> Option<i128>
         },
         OwnColumn::Downtime(column) => downtime_number(row_downtime(live, row), column),
         OwnColumn::Comment(column) => comment_number(row_comment(live, row), column),
-        _ => RowCells::of(live, row).number(c),
+        OwnColumn::Program(column) => program_number(live, row, column),
+        _ => None,
     }
 }
 
@@ -217,8 +229,8 @@ pub fn row_number(live: &Live, row: Row, c: Col) -> Option<i128>
 /// it; None for any other row. A loop over that table's rows has no other row to look for.
 #[inline(always)]
 pub fn host_number(live: &Live, row: Row, column: HostColumn) -> Option<i128>
-    ensures value { IfSome result (λ number.
-        own_cell live.now.state row (own.Host column) ≡ Number number) }
+    ensures value { (view : View) → IfSome result (λ number.
+        own_cell live.now.state view row (own.Host column) ≡ Number number) }
     ensures given { IsHost live.now.state row → IsNumber (host_kind column)
         → IsHeldByHost column → IsSome result }
 {
@@ -232,8 +244,8 @@ pub fn host_number(live: &Live, row: Row, column: HostColumn) -> Option<i128>
 /// gives it; None for any other row.
 #[inline(always)]
 pub fn service_number(live: &Live, row: Row, column: ServiceColumn) -> Option<i128>
-    ensures value { IfSome result (λ number.
-        own_cell live.now.state row (own.Service column) ≡ Number number) }
+    ensures value { (view : View) → IfSome result (λ number.
+        own_cell live.now.state view row (own.Service column) ≡ Number number) }
     ensures given { IsService live.now.state row → IsNumber (service_kind column)
         → IsHeldByService column → IsSome result }
 {
@@ -247,8 +259,9 @@ pub fn service_number(live: &Live, row: Row, column: ServiceColumn) -> Option<i1
 /// hosts. A loop over many rows has these at hand, and looks at nothing else.
 #[inline(always)]
 pub fn host_status_number(statuses: &[Status], row: Row, column: StatusColumn) -> Option<i128>
-    ensures value { (s : State) → AreOfHosts s statuses.now → IfSome result (λ number.
-        own_cell s row (own.Host (host_column.Status column)) ≡ Number number) }
+    ensures value { (s : State) (view : View) → AreOfHosts s statuses.now
+        → IfSome result (λ number.
+        own_cell s view row (own.Host (host_column.Status column)) ≡ Number number) }
     ensures given { (s : State) → AreOfHosts s statuses.now → IsHost s row
         → IsNumber (status_kind column) → IsHeldByStatus column → IsSome result }
 {
@@ -262,8 +275,9 @@ pub fn host_status_number(statuses: &[Status], row: Row, column: StatusColumn) -
 /// of all services.
 #[inline(always)]
 pub fn service_status_number(statuses: &[Status], row: Row, column: StatusColumn) -> Option<i128>
-    ensures value { (s : State) → AreOfServices s statuses.now → IfSome result (λ number.
-        own_cell s row (own.Service (service_column.Status column)) ≡ Number number) }
+    ensures value { (s : State) (view : View) → AreOfServices s statuses.now
+        → IfSome result (λ number.
+        own_cell s view row (own.Service (service_column.Status column)) ≡ Number number) }
     ensures given { (s : State) → AreOfServices s statuses.now → IsService s row
         → IsNumber (status_kind column) → IsHeldByStatus column → IsSome result }
 {
@@ -277,8 +291,8 @@ pub fn service_status_number(statuses: &[Status], row: Row, column: StatusColumn
 /// None for any other row.
 #[inline(always)]
 pub fn host_text(live: &Live, row: Row, column: HostColumn) -> Option<&str>
-    ensures value { IfSome result (λ text.
-        own_cell live.now.state row (own.Host column) ≡ Words text.now) }
+    ensures value { (view : View) → IfSome result (λ text.
+        own_cell live.now.state view row (own.Host column) ≡ Words text.now) }
     ensures given { IsHost live.now.state row → IsText (host_kind column) → IsSome result }
 {
     match row {
@@ -291,8 +305,8 @@ pub fn host_text(live: &Live, row: Row, column: HostColumn) -> Option<&str>
 /// it; None for any other row.
 #[inline(always)]
 pub fn service_text(live: &Live, row: Row, column: ServiceColumn) -> Option<&str>
-    ensures value { IfSome result (λ text.
-        own_cell live.now.state row (own.Service column) ≡ Words text.now) }
+    ensures value { (view : View) → IfSome result (λ text.
+        own_cell live.now.state view row (own.Service column) ≡ Words text.now) }
     ensures given { IsService live.now.state row → IsText (service_kind column)
         → IsSome result }
 {
@@ -304,8 +318,9 @@ pub fn service_text(live: &Live, row: Row, column: ServiceColumn) -> Option<&str
 
 /// The text of one cell of a row, as `text` of `RowCells` gives it.
 #[inline]
-pub fn row_text(live: &Live, row: Row, c: Col) -> Option<&str>
-    ensures value { IfSome result (λ text. cell_of live.now.state row c ≡ Words text.now) }
+pub fn row_text<'a>(live: &'a Live, row: Row, c: Col, view: &'a View) -> Option<&'a str>
+    ensures value { IfSome result (λ text.
+        cell_of live.now.state view.now row c ≡ Words text.now) }
     ensures given { IsText (own_kind c.own) → IsLight c.own → IsSome result }
 {
     match c.own {
@@ -319,7 +334,7 @@ pub fn row_text(live: &Live, row: Row, c: Col) -> Option<&str>
         },
         OwnColumn::Downtime(column) => downtime_text(row_downtime(live, row), column),
         OwnColumn::Comment(column) => comment_text(row_comment(live, row), column),
-        _ => RowCells::of(live, row).text(c),
+        _ => RowCells::of(live, row, view).text(c),
     }
 }
 
@@ -327,8 +342,8 @@ pub fn row_text(live: &Live, row: Row, c: Col) -> Option<&str>
 /// host or a service, None for any other cell. It takes no memory.
 #[inline]
 pub fn row_contains(live: &Live, row: Row, c: Col, text: &str) -> Option<bool>
-    ensures value { IfSome result (λ found. (texts : List (List ℕ))
-        × (cell_of live.now.state row c ≡ Texts texts)
+    ensures value { (view : View) → IfSome result (λ found. (texts : List (List ℕ))
+        × (cell_of live.now.state view row c ≡ Texts texts)
         × (found ≡ has_text text.now texts)) }
     ensures given { IsSearchedIn c.own → IsSome result }
 {
@@ -364,9 +379,9 @@ fn empty_contains(kind: ColKind) -> Option<bool>
 /// other row. `contact_named` finds the contact.
 #[inline]
 pub fn host_lists_contact(live: &Live, row: Row, contact: Option<ContactId>) -> Option<bool>
-    ensures value { (name : List ℕ) → IsContactNamed live.now.state.base name contact
+    ensures value { (view : View) (name : List ℕ) → IsContactNamed live.now.state.base name contact
         → IfSome result (λ found. (texts : List (List ℕ))
-        × (own_cell live.now.state row (own.Host (host_column.Object object_column.Contacts))
+        × (own_cell live.now.state view row (own.Host (host_column.Object object_column.Contacts))
         ≡ Texts texts)
         × (found ≡ has_text name texts)) }
     ensures given { IsHost live.now.state row → IsSome result }
@@ -384,9 +399,10 @@ pub fn host_lists_contact(live: &Live, row: Row, contact: Option<ContactId>) -> 
 /// any other row. `contact_named` finds the contact.
 #[inline]
 pub fn service_lists_contact(live: &Live, row: Row, contact: Option<ContactId>) -> Option<bool>
-    ensures value { (name : List ℕ) → IsContactNamed live.now.state.base name contact
+    ensures value { (view : View) (name : List ℕ) → IsContactNamed live.now.state.base name contact
         → IfSome result (λ found. (texts : List (List ℕ))
-        × (own_cell live.now.state row (own.Service (service_column.Object object_column.Contacts))
+        × (own_cell live.now.state view row
+        (own.Service (service_column.Object object_column.Contacts))
         ≡ Texts texts)
         × (found ≡ has_text name texts)) }
     ensures given { IsService live.now.state row → IsSome result }
@@ -400,7 +416,8 @@ pub fn service_lists_contact(live: &Live, row: Row, contact: Option<ContactId>) 
     }
 }
 
-/// The value that a row of a table has in a column. Where the row is about nothing of the column's
+/// The value that a row of a table has in a column, of other objects as far as a query sees them.
+/// Where the row is about nothing of the column's
 /// kind, as a host's comment about no service, it is 0, an empty text or an empty list. Lists, and
 /// the names of columns, take memory, and running out of it is the only error.
 pub fn cell<'a>(
@@ -409,9 +426,10 @@ pub fn cell<'a>(
     _t: Table,
     c: Col,
     r: &Row,
+    view: &'a View,
 ) -> Result<Val<'a>, Memory>
-    ensures value { IfOk result (λ v. shown v ≡ cell_of live.now.state r.now c) }
+    ensures value { IfOk result (λ v. shown v ≡ cell_of live.now.state view.now r.now c) }
     ensures plain { IsLight c.own → IsOk result }
 {
-    RowCells::of(live, *r).value(alloc, c)
+    RowCells::of(live, *r, view).value(alloc, c)
 }

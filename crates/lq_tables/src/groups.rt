@@ -1,6 +1,8 @@
-ghost use Rattle.std.specs.Prelude.{◌≡◌, IfOk, IsOk};
+ghost use Rattle.std.specs.Prelude.{◌≡◌, IfOk, IsOk, filter};
 ghost use Rattle.std.specs.List.{slice_get};
 ghost use Rattle.std.specs.Option.{IfSome, IsSome, option_copied};
+ghost use Rattle.lq_auth.specs.Rights.{sees_service};
+ghost use Rattle.lq_auth.specs.declared.view.View.{View};
 ghost use Rattle.lq_columns.specs.Plain.{IsPlain, IsText};
 ghost use Rattle.lq_records.specs.declared.base.Base.{Base};
 ghost use Rattle.lq_schema.specs.Kinds.{contact_group_kind, host_group_kind, service_group_kind};
@@ -8,9 +10,12 @@ ghost use Rattle.lq_schema.specs.Value.{Words, shown};
 ghost use Rattle.lq_tables.specs.Cells.{contact_group_cell, host_group_cell, host_group_part, service_group_cell, service_group_part};
 
 use crate::pairs::pairs_of;
-use lq_columns::{Scope, empty_text, empty_value, hosts_value, names_of, services_value};
+use lq_auth::View;
+use lq_columns::{
+    Scope, empty_text, empty_value, hosts_value, names_of, seen_hosts, services_value,
+};
 use lq_live::Live;
-use lq_records::{Base, ContactGroup, HostGroupId, Memory, ServiceGroupId};
+use lq_records::{Base, ContactGroup, HostGroupId, Memory, ServiceGroupId, ServiceId};
 use lq_schema::{ContactGroupColumn, HostGroupColumn, OwnColumn, ServiceGroupColumn, Val};
 use std::alloc::Global;
 
@@ -67,8 +72,8 @@ pub(crate) fn host_group_text(
     id: Option<HostGroupId>,
     column: HostGroupColumn,
 ) -> Option<&str>
-    ensures value { IfSome result (λ text.
-        host_group_part live.now.state id column ≡ Words text.now) }
+    ensures value { (view : View) → IfSome result (λ text.
+        host_group_part live.now.state view id column ≡ Words text.now) }
     ensures given { IsText (host_group_kind column) → IsSome result }
 {
     let Some(id) = id else {
@@ -87,14 +92,17 @@ pub(crate) fn host_group_text(
     }
 }
 
-/// The value of a column on a group of hosts. Its members take memory, which is the only error.
+/// The value of a column on a group of hosts. Its members and its
+/// counters are of those that a query sees. Its members take memory, which is the only error.
 pub(crate) fn host_group_value<'a>(
     alloc: Global,
     live: &'a Live,
+    view: &View,
     id: Option<HostGroupId>,
     column: HostGroupColumn,
 ) -> Result<Val<'a>, Memory>
-    ensures value { IfOk result (λ v. shown v ≡ host_group_part live.now.state id column) }
+    ensures value { IfOk result (λ v.
+        shown v ≡ host_group_part live.now.state view.now id column) }
     ensures plain { IsPlain (host_group_kind column) → IsOk result }
 {
     let Some(id) = id else {
@@ -110,12 +118,13 @@ pub(crate) fn host_group_value<'a>(
         HostGroupColumn::NotesUrl => Ok(Val::Str(group.notes_url.as_str())),
         HostGroupColumn::ActionUrl => Ok(Val::Str(group.action_url.as_str())),
         HostGroupColumn::Members => {
-            let names = names_of(alloc, live.base(), group.members.as_slice())?;
+            let members = seen_hosts(alloc, view, group.members.as_slice())?;
+            let names = names_of(alloc, live.base(), &members)?;
             Ok(Val::List(names))
         }
-        HostGroupColumn::Hosts(column) => Ok(hosts_value(live, id, column)),
+        HostGroupColumn::Hosts(column) => Ok(hosts_value(live, view, id, column)),
         HostGroupColumn::Services(column) => {
-            Ok(services_value(alloc, live, Scope::HostGroup(id), column))
+            Ok(services_value(alloc, live, view, Scope::HostGroup(id), column))
         }
     }
 }
@@ -128,8 +137,8 @@ pub(crate) fn service_group_text(
     id: Option<ServiceGroupId>,
     column: ServiceGroupColumn,
 ) -> Option<&str>
-    ensures value { IfSome result (λ text.
-        service_group_part live.now.state id column ≡ Words text.now) }
+    ensures value { (view : View) → IfSome result (λ text.
+        service_group_part live.now.state view id column ≡ Words text.now) }
     ensures given { IsText (service_group_kind column) → IsSome result }
 {
     let Some(id) = id else {
@@ -148,14 +157,17 @@ pub(crate) fn service_group_text(
     }
 }
 
-/// The value of a column on a group of services. Its members take memory, which is the only error.
+/// The value of a column on a group of services. Its members and its
+/// counters are of those that a query sees. Its members take memory, which is the only error.
 pub(crate) fn service_group_value<'a>(
     alloc: Global,
     live: &'a Live,
+    view: &View,
     id: Option<ServiceGroupId>,
     column: ServiceGroupColumn,
 ) -> Result<Val<'a>, Memory>
-    ensures value { IfOk result (λ v. shown v ≡ service_group_part live.now.state id column) }
+    ensures value { IfOk result (λ v.
+        shown v ≡ service_group_part live.now.state view.now id column) }
     ensures plain { IsPlain (service_group_kind column) → IsOk result }
 {
     let Some(id) = id else {
@@ -171,11 +183,27 @@ pub(crate) fn service_group_value<'a>(
         ServiceGroupColumn::NotesUrl => Ok(Val::Str(group.notes_url.as_str())),
         ServiceGroupColumn::ActionUrl => Ok(Val::Str(group.action_url.as_str())),
         ServiceGroupColumn::Members => {
-            let pairs = pairs_of(alloc, live.base(), group.members.as_slice())?;
+            let members = seen_services(alloc, view, group.members.as_slice())?;
+            let pairs = pairs_of(alloc, live.base(), &members)?;
             Ok(Val::Pairs(pairs))
         }
         ServiceGroupColumn::Services(column) => {
-            Ok(services_value(alloc, live, Scope::ServiceGroup(id), column))
+            Ok(services_value(alloc, live, view, Scope::ServiceGroup(id), column))
         }
     }
+}
+
+/// Those of some services that are seen.
+fn seen_services(
+    alloc: Global,
+    view: &View,
+    services: &[ServiceId],
+) -> Result<Vec<ServiceId>, Memory>
+    ensures { IfOk result (λ seen. seen.items ≡ filter (sees_service view.now) services.now) }
+{
+    services
+        .iter()
+        .copied()
+        .filter(|service| view.sees_service(*service))
+        .collect(alloc)
 }

@@ -12,6 +12,7 @@ mod program;
 mod remarks;
 mod row;
 mod schema;
+mod seen;
 mod value;
 
 pub use cells::{
@@ -19,5 +20,5 @@ pub use cells::{
     row_number, row_text, service_lists_contact, service_number, service_status_number,
     service_text,
 };
-pub use listing::{Rows, rows};
 pub use row::Row;
+pub use seen::{Rows, rows};

@@ -1,7 +1,7 @@
 ghost use Rattle.std.specs.Prelude.{◌≡◌, ◌<◌, ◌^◌, [], ◌∷◌, ◌++◌, IfOk, OnOk, length, map, filter};
 ghost use Rattle.std.specs.List.{flat_map, range_with_len};
-ghost use Rattle.lq_tables.specs.Own.{HasIdsRising, IsOwn};
-ghost use Rattle.lq_tables.specs.Rows.{group_service_rows, host_group_rows, numbered, places_of, rows_of, runs_on, service_group_rows, service_rows};
+ghost use Rattle.lq_live.specs.Ids.{HasRisingIds};
+ghost use Rattle.lq_tables.specs.Rows.{group_service_rows, host_group_rows, numbered, places_of, runs_on, service_group_rows, service_rows, table_rows};
 ghost use Rattle.lq_tables.specs.Schema.{schema};
 ghost use Rattle.lq_tables.specs.declared.row.Row.TheVariants as row;
 
@@ -11,22 +11,16 @@ use crate::schema::entry_count;
 use lq_events::{Comment, Downtime};
 use lq_live::Live;
 use lq_records::{
-    HostGroup, HostGroupId, HostId, Items, Memory, Service, ServiceGroup, ServiceGroupId, ServiceId,
+    HostGroup, HostGroupId, HostId, Memory, Service, ServiceGroup, ServiceGroupId, ServiceId,
 };
 use lq_schema::Table;
 use std::alloc::Global;
 
-/// Rows of a table, in order.
-pub type Rows = Items<Row>;
-
-/// The rows of a table, in order: objects as the object file lists them, downtimes and comments by
-/// their ids, the members of each group as the group lists them. The row of each downtime and of
-/// each comment is about that one, and their ids rise from row to row. The only error is out of
-/// memory.
-pub fn rows(alloc: Global, live: &Live, t: Table) -> Result<Rows, Memory>
-    ensures all { IfOk result (λ rows. rows ≡ rows_of live.now.state t) }
-    ensures own { IfOk result (λ rows. IsOwn live.now.state t rows) }
-    ensures ids { IfOk result (λ rows. HasIdsRising live.now.state t rows) }
+/// All rows of a table, in order: objects as the object file lists them, downtimes and comments by
+/// their ids, the members of each group as the group lists them. The only error is out of memory.
+pub(crate) fn table_rows(alloc: Global, live: &Live, t: Table) -> Result<Vec<Row>, Memory>
+    ensures all { IfOk result (λ rows. rows.items ≡ table_rows live.now.state t) }
+    ensures ids { HasRisingIds live.now.state }
 {
     let base = live.base();
     let (downtimes, comments) = (live.downtimes(), live.comments());
@@ -51,7 +45,7 @@ pub fn rows(alloc: Global, live: &Live, t: Table) -> Result<Rows, Memory>
             base.host_groups.as_slice(),
         )?,
     };
-    Ok(Items::from_vec(rows))
+    Ok(rows)
 }
 
 fn downtime_rows(alloc: Global, downtimes: &[Downtime]) -> Result<Vec<Row>, Memory>

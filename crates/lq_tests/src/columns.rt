@@ -2,6 +2,7 @@
 //! groups.
 
 use crate::fixture::{SITE, Site, Step, assert_replies, assert_steps};
+use lq_auth::View;
 use lq_columns::{HostRow, ServiceRow};
 use lq_live::Live;
 use lq_records::{
@@ -190,7 +191,7 @@ fn something(
 ) -> Result<Option<&'static str>, AllocError> {
     for i in 0..column_count(table) {
         let column = column_at(table, i);
-        if !is_nothing(&cell(alloc, live, table, column, row)?) {
+        if !is_nothing(&cell(alloc, live, table, column, row, &View::All)?) {
             return Ok(Some(column_name(column).name));
         }
     }
@@ -208,7 +209,16 @@ fn assert_nothing<R: Abort + AllocGlobal>(rt: &R, live: &Live) -> Result<(), Fai
     assert!(rt; ServiceRow::at(live, ServiceId(3)).is_none());
     let description = column(Table::Services, "description").ok_or("no column")?;
     let host = Row::Host(HostId(0));
-    assert!(rt; is_nothing(&cell(rt.alloc(), live, Table::Hosts, description, &host)?));
+    assert!(rt;
+        is_nothing(&cell(
+            rt.alloc(),
+            live,
+            Table::Hosts,
+            description,
+            &host,
+            &View::All
+        )?)
+    );
     Ok(())
 }
 

@@ -165,19 +165,26 @@ pub(crate) fn push_all(text: &mut String, parts: &[&str]) -> Result<(), AllocErr
     Ok(())
 }
 
-/// The base of an object file, which is without a fault.
+/// The base of an object file, which is without a fault, under the usual rules.
 pub(crate) fn base_of(alloc: Global, objects: &[u8]) -> Result<Base, Fail>
     ensures { IfOk result IsSound }
 {
-    match read_objects(alloc, objects, Rules::default()) {
+    base_under(alloc, objects, Rules::default())
+}
+
+/// The same under any rules.
+fn base_under(alloc: Global, objects: &[u8], rules: Rules) -> Result<Base, Fail>
+    ensures { IfOk result IsSound }
+{
+    match read_objects(alloc, objects, rules) {
         Ok(base) => Ok(base),
         Err(_) => Err(Fail::new("the object file is refused")),
     }
 }
 
-/// The opening state of an object file.
-fn live_of(alloc: Global, objects: &[u8]) -> Result<Live, Fail> {
-    let base = base_of(alloc, objects)?;
+/// The opening state of an object file under rules.
+fn live_under(alloc: Global, objects: &[u8], rules: Rules) -> Result<Live, Fail> {
+    let base = base_under(alloc, objects, rules)?;
     Ok(Live::open(alloc, base, LogBook::empty(alloc))?)
 }
 
@@ -197,7 +204,14 @@ impl Site {
     /// so that how its many parts are dropped is proved once.
     pub(crate) fn open(alloc: Global, named: &[u8], objects: &[u8]) -> Result<Box<Self>, Fail> {
         let named = base_of(alloc, named)?;
-        let live = live_of(alloc, objects)?;
+        let live = live_under(alloc, objects, Rules::default())?;
+        Ok(Box::new(alloc, Site { named, live })?)
+    }
+
+    /// The site of an object file under rules.
+    pub(crate) fn under(alloc: Global, objects: &[u8], rules: Rules) -> Result<Box<Self>, Fail> {
+        let named = base_of(alloc, objects)?;
+        let live = live_under(alloc, objects, rules)?;
         Ok(Box::new(alloc, Site { named, live })?)
     }
 
@@ -347,7 +361,18 @@ pub(crate) fn assert_asked<R: Abort + AllocGlobal>(
     commands: &str,
     queries: &[Asked<'_>],
 ) -> Result<(), Fail> {
-    let mut site = Site::open(rt.alloc(), objects, objects)?;
+    let site = Site::open(rt.alloc(), objects, objects)?;
+    assert_site(rt, site, commands, queries)
+}
+
+/// Compares what queries on a site are answered after commands.
+pub(crate) fn assert_site<R: Abort + AllocGlobal>(
+    rt: &R,
+    site: Box<Site>,
+    commands: &str,
+    queries: &[Asked<'_>],
+) -> Result<(), Fail> {
+    let mut site = site;
     site.play(rt.alloc(), commands)?;
     for asked in queries {
         assert_each(rt, &site, *asked)?;

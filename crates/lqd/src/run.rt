@@ -4,21 +4,22 @@ ghost use Rattle.lq_outside.specs.Faults.{Rose};
 ghost use Rattle.lq_outside.specs.Sinks.{AppendsFront};
 ghost use Rattle.lq_records.specs.Sound.{IsSound};
 ghost use Rattle.lq_live.specs.State.{opened};
-ghost use Rattle.lqd.specs.CommandLine.{asked_path};
+ghost use Rattle.lqd.specs.CommandLine.{asked_words, wanted_by};
 ghost use Rattle.lqd.specs.Faults.{IsStatus, status_of, end_text};
 ghost use Rattle.lqd.specs.Reading.{ReadsAll, ReadsNoFurther, ReadsPart, ReadsSome, RepliesToFirst, RepliesToPart, RepliesToRead};
 ghost use Rattle.lqd.specs.Replies.{replies};
 ghost use Rattle.lqd.specs.Run.{IsRefused, LoadsNoBase, MustRefuse, OnBase, OnFile, Reports};
 
-use crate::command_line::asked_path;
+use crate::command_line::{Asked, asked_words};
 use crate::fault::{Fault, OBJECTS_LIMIT, ObjectsFault};
 use crate::session::{ServeErr, serve};
 use lq_objects::{ObjectsErr, read_objects};
 use lq_outside::{Files, LoadErr, Sink, Source};
-use lq_records::{Base, Rules};
+use lq_records::Base;
 use std::alloc::Global;
 
-/// Runs the program: `ask OBJECTS` serves the messages of the input over the objects of a file.
+/// Runs the program: `ask OBJECTS` serves the messages of the input over the objects of a file, by
+/// the rules of rights that its options choose (`asked_words`).
 /// Each query is answered at the state that the commands before it left. The connection ends after
 /// a query without `KeepAlive: on`, after a message that is too long, after the 10,000th message,
 /// or with the input. The answer is the status that the program ends with:
@@ -46,12 +47,12 @@ pub fn run<R, F: Files, S: Source, K: Sink>(
 ) -> u8
     // The statuses, and when each may come.
     ensures status { IsStatus result }
-    ensures usage { (result ≡ 1) ↔ (asked_path (map string_bytes words.now) ≡ None) }
+    ensures usage { (result ≡ 1) ↔ (asked_words (map string_bytes words.now) ≡ None) }
     ensures objects { result ≡ 2
-        → OnFile (asked_path (map string_bytes words.now)) (F.held_at files.old)
-        (λ _ file. IsRefused file) }
-    ensures exactly { OnFile (asked_path (map string_bytes words.now)) (F.held_at files.old)
-        (λ _ file. MustRefuse result file) }
+        → OnFile (asked_words (map string_bytes words.now)) (F.held_at files.old)
+        (λ wanted file. IsRefused wanted.rules file) }
+    ensures exactly { OnFile (asked_words (map string_bytes words.now)) (F.held_at files.old)
+        (λ wanted file. MustRefuse wanted.rules result file) }
     ensures file_cause { result ≡ 4 → Rose (F.faults files.old) (F.faults files.new) }
     ensures read_cause { result ≡ 5 → Rose (S.faults input.old) (S.faults input.new) }
     ensures write_cause { result ≡ 6 → Rose (K.faults output.old) (K.faults output.new) }
@@ -63,36 +64,36 @@ pub fn run<R, F: Files, S: Source, K: Sink>(
     ensures read { result ≡ 0 → ReadsAll (S.left input.old) (S.left input.new) }
     ensures no_further { result ≡ 0 → ReadsNoFurther (S.left input.old) (S.left input.new) }
     ensures written { result ≡ 0
-        → OnFile (asked_path (map string_bytes words.now)) (F.held_at files.old)
-        (λ _ file. OnBase file (λ base. IfSome (S.left input.old) (λ all.
+        → OnFile (asked_words (map string_bytes words.now)) (F.held_at files.old)
+        (λ wanted file. OnBase wanted.rules file (λ base. IfSome (S.left input.old) (λ all.
         Appends (K.held output.old) (K.held output.new) (replies (opened base) all)))) }
     ensures part { result ≡ 5 → ReadsPart (S.left input.old) (S.left input.new) }
     ensures part_written { result ≡ 5
-        → OnFile (asked_path (map string_bytes words.now)) (F.held_at files.old)
-        (λ _ file. OnBase file (λ base.
+        → OnFile (asked_words (map string_bytes words.now)) (F.held_at files.old)
+        (λ wanted file. OnBase wanted.rules file (λ base.
         RepliesToPart (opened base) (S.left input.old) (S.left input.new)
         (K.held output.old) (K.held output.new))) }
     ensures cut_short { result ≡ 6
-        → OnFile (asked_path (map string_bytes words.now)) (F.held_at files.old)
-        (λ _ file. OnBase file (λ base. IfSome (S.left input.old) (λ all.
+        → OnFile (asked_words (map string_bytes words.now)) (F.held_at files.old)
+        (λ wanted file. OnBase wanted.rules file (λ base. IfSome (S.left input.old) (λ all.
         AppendsFront (K.held output.old) (K.held output.new) (replies (opened base) all)))) }
     ensures read_before { result ≡ 6
-        → OnFile (asked_path (map string_bytes words.now)) (F.held_at files.old)
-        (λ _ file. OnBase file (λ base.
+        → OnFile (asked_words (map string_bytes words.now)) (F.held_at files.old)
+        (λ wanted file. OnBase wanted.rules file (λ base.
         RepliesToRead (opened base) (S.left input.old) (S.left input.new)
         (K.held output.old) (K.held output.new))) }
     ensures some_read { (result ≡ 6) ⊎ (result ≡ 7)
         → ReadsSome (S.left input.old) (S.left input.new) }
     ensures first_written { result ≡ 7
         → ((input.new ≡ input.old) × (output.new ≡ output.old))
-        ⊎ OnFile (asked_path (map string_bytes words.now)) (F.held_at files.old)
-        (λ _ file. OnBase file (λ base. IfSome (S.left input.old) (λ all.
+        ⊎ OnFile (asked_words (map string_bytes words.now)) (F.held_at files.old)
+        (λ wanted file. OnBase wanted.rules file (λ base. IfSome (S.left input.old) (λ all.
         RepliesToFirst (opened base) all (K.faults output.old) (K.faults output.new)
         (K.held output.old) (K.held output.new)))) }
 
     // What the fault sink gets, where its count of faults doesn't rise.
     ensures report { ¬ Rose (K.faults faults.old) (K.faults faults.new)
-        → Reports (asked_path (map string_bytes words.now)) (F.held_at files.old) result
+        → Reports (asked_words (map string_bytes words.now)) (F.held_at files.old) result
         (K.held faults.old) (K.held faults.new) }
     ensures quiet { result ≡ 0 → faults.new ≡ faults.old }
 
@@ -103,10 +104,10 @@ pub fn run<R, F: Files, S: Source, K: Sink>(
     ensures faults_later { K.faults faults.old ≤ K.faults faults.new }
     ensures files_stay { (p : List ℕ) → F.held_at files.new p ≡ F.held_at files.old p }
 {
-    let Some(path) = asked_path(words) else {
+    let Some(asked) = asked_words(words) else {
         return end(Fault::Usage, faults);
     };
-    let base = match load_base(alloc, path, files) {
+    let base = match load_base(alloc, &asked, files) {
         Ok(base) => base,
         Err(fault) => return end(fault, faults),
     };
@@ -131,14 +132,21 @@ fn end<K: Sink>(fault: Fault, faults: &mut K) -> u8
 }
 
 /// Loads the object file and reads it.
-fn load_base<'a, F: Files>(alloc: Global, path: &'a str, files: &mut F) -> Result<Base, Fault<'a>>
-    ensures ok { IfOk result (λ base. OnBase (F.held_at files.old path.now) (λ said. said ≡ base)) }
+fn load_base<'a, F: Files>(
+    alloc: Global,
+    asked: &Asked<'a>,
+    files: &mut F,
+) -> Result<Base, Fault<'a>>
+    ensures ok { IfOk result (λ base. OnBase asked.now.rules
+        (F.held_at files.old asked.now.path.now) (λ said. said ≡ base)) }
     ensures sound { IfOk result IsSound }
-    ensures err { IfErr result (LoadsNoBase path.now (F.held_at files.old path.now)
+    ensures err { IfErr result (LoadsNoBase (wanted_by asked.now)
+        (F.held_at files.old asked.now.path.now)
         (F.faults files.old) (F.faults files.new)) }
     ensures later { F.faults files.old ≤ F.faults files.new }
     ensures stays { (p : List ℕ) → F.held_at files.new p ≡ F.held_at files.old p }
 {
+    let path = asked.path;
     let bytes = match files.load(alloc, path, OBJECTS_LIMIT) {
         Ok(bytes) => bytes,
         Err(LoadErr::Missing) => return Err(Fault::FileMissing(path)),
@@ -146,7 +154,7 @@ fn load_base<'a, F: Files>(alloc: Global, path: &'a str, files: &mut F) -> Resul
         Err(LoadErr::TooLarge) => return Err(Fault::Objects(ObjectsFault::TooLarge)),
         Err(LoadErr::Memory) => return Err(Fault::Memory),
     };
-    match read_objects(alloc, &bytes, Rules::default()) {
+    match read_objects(alloc, &bytes, asked.rules) {
         Ok(base) => Ok(base),
         Err(ObjectsErr::At { line, what }) => Err(Fault::Objects(ObjectsFault::At { line, what })),
         Err(ObjectsErr::Memory(_)) => Err(Fault::Memory),

@@ -1,4 +1,4 @@
-ghost use Rattle.std.specs.Prelude.{[], ◌≡◌, ◌≢◌, ◌<◌, ◌≤◌, ◌⊎◌, length, vec_len, IfOk, IfErr, IfSome, OnErr, OnOk};
+ghost use Rattle.std.specs.Prelude.{[], ◌≡◌, All, ◌≢◌, ◌<◌, ◌≤◌, ◌⊎◌, length, vec_len, IfOk, IfErr, IfSome, OnErr, OnOk};
 ghost use Rattle.std.specs.Io.KnownBytes.{Appends, Keeps};
 ghost use Rattle.lq_outside.specs.Faults.{HasCause, Rose};
 ghost use Rattle.lq_outside.specs.Sinks.{AppendsFront};
@@ -6,7 +6,10 @@ ghost use Rattle.lq_records.specs.Sound.{IsSound};
 ghost use Rattle.lq_live.specs.State.{opened};
 ghost use Rattle.lq_request.specs.Messages.{Command, Query, TooLong, message_limit};
 ghost use Rattle.lq_output.specs.Header.{refusal_text};
+ghost use Rattle.lq_query.specs.Answer.{answer_of};
+ghost use Rattle.lq_request.specs.Reading.{ShowsCells};
 ghost use Rattle.lq_request.specs.Request.{asked};
+ghost use Rattle.lq_request.specs.Stats.{IsStat};
 ghost use Rattle.lq_request.specs.Style.{style_of};
 ghost use Rattle.lqd.specs.Reading.{AppendsOrFaults, ReadsAll, ReadsNoFurther, RepliesToFirst};
 ghost use Rattle.lqd.specs.Replies.{after_piece, keeps, opening, out_of_memory, replies, reply_to, too_long, update_of};
@@ -20,7 +23,7 @@ use lq_output::refusal;
 use lq_outside::{Failed, Sink, Source, write_all};
 use lq_query::answer;
 use lq_records::{Base, Items, Memory, Refusal, Text};
-use lq_request::{Cut, Cutting, ReadErr, read_request, reply_style};
+use lq_request::{Cut, Cutting, ReadErr, Request, read_request, reply_style};
 use std::alloc::{AllocError, Global};
 use std::marker::Model;
 
@@ -300,6 +303,21 @@ impl Session {
         write_reply(output, bytes.as_slice())
     }
 
+    /// The reply to a query that is read.
+    fn answered(&self, request: &Request) -> Result<Answered, Memory>
+        requires cells { ShowsCells request.now }
+        requires stats { All IsStat request.now.stats }
+        ensures bytes { IfOk result (λ answered.
+            answered.bytes ≡ (answer_of request.now self.now.state).bytes) }
+        ensures keep { IfOk result (λ answered. answered.keep ≡ request.now.keep) }
+    {
+        let reply = answer(self.alloc, &self.live, request)?;
+        Ok(Answered {
+            bytes: reply.bytes,
+            keep: request.keep,
+        })
+    }
+
     /// The reply to a query.
     fn reply(&self, text: &[u8]) -> Result<Answered, Memory>
         ensures bytes { IfOk result
@@ -307,10 +325,7 @@ impl Session {
         ensures keep { IfOk result (λ answered. answered.keep ≡ keeps (asked text.now)) }
     {
         match read_request(self.alloc, text, self.live.base()) {
-            Ok(request) => Ok(Answered {
-                bytes: answer(self.alloc, &self.live, &request)?.bytes,
-                keep: request.keep,
-            }),
+            Ok(request) => self.answered(&request),
             Err(
                 ReadErr::Refused {
                     refusal,

@@ -256,6 +256,27 @@ const TABLES: &[(&[u8], &[u8])] = &[
         b"GET services\nColumns: description contacts host_contacts max_check_attempts\n\n",
         b"http;anna;anna;3\ndisk;bert;anna;1\nping;bert;bert;1\n",
     ),
+    (
+        b"GET services\nColumns: host_name description\nAuthUser: anna\n\n",
+        b"web1;http\nweb1;disk\n",
+    ),
+    (
+        b"GET hostgroups\nColumns: name members\nAuthUser: anna\n\n",
+        b"",
+    ),
+    (b"GET hosts\nAuthUser: nobody\nColumns: name\n\n", b""),
+    (
+        b"GET hosts\nColumns: name num_services services\nAuthUser: anna\n\n",
+        b"web1;2;http,disk\n",
+    ),
+    (
+        b"GET services\nColumns: host_name description state has_been_checked state_type \
+current_attempt max_check_attempts plugin_output perf_data acknowledged scheduled_downtime_depth \
+notifications_enabled contacts\nAuthUser: anna\nKeepAlive: on\nLocaltime: 1700000000
+OutputFormat: json\nResponseHeader: fixed16\n\n",
+        b"200          97\n[[\"web1\",\"http\",0,0,1,1,3,\"\",\"\",0,0,1,[\"anna\"]],
+[\"web1\",\"disk\",0,0,1,1,1,\"\",\"\",0,0,1,[\"bert\"]]]\n",
+    ),
     (b"GET log\n\n", b""),
     (b"GET services\nColumns: name\n\n", b""),
     (b"GET services\nColumnHeaders: yes\n\n", b""),
@@ -362,6 +383,65 @@ fn words_decide_what_is_done(rt: HostRuntime) -> Result<(), Fail> {
     ];
     for (words, expected) in cases {
         assert_run(&rt, words, &STEADY, QUERY, expected)?;
+    }
+    Ok(())
+}
+
+/// The services, and then the host groups, that anna sees.
+const SEEN: &[u8] = b"GET services\nColumns: description\nAuthUser: anna\nKeepAlive: on\n
+GET hostgroups\nColumns: name members\nAuthUser: anna\n\n";
+
+/// Options before and after the object file, and what anna sees under their rules.
+const RULES: &[(&[&str], &[u8])] = &[
+    (&["ask", "f"], b"http\ndisk\n"),
+    (&["ask", "f", "--service-auth", "strict"], b"http\n"),
+    (&["ask", "--service-auth=strict", "f"], b"http\n"),
+    (
+        &["ask", "--group-auth", "loose", "f"],
+        b"http\ndisk\nweb;web1\n",
+    ),
+    (
+        &[
+            "ask",
+            "--group-auth=loose",
+            "--service-auth=strict",
+            "--",
+            "f",
+        ],
+        b"http\nweb;web1\n",
+    ),
+    (
+        &["ask", "--service-auth", "loose", "f", "--group-auth=strict"],
+        b"http\ndisk\n",
+    ),
+];
+
+/// Words outside the grammar.
+const FAULTY: &[&[&str]] = &[
+    &["ask", "f", "--service-auth"],
+    &["ask", "--service-auth", "f"],
+    &[
+        "ask",
+        "--service-auth=strict",
+        "--service-auth",
+        "loose",
+        "f",
+    ],
+    &["ask", "--group-auth=maybe", "f"],
+    &["ask", "--", "f", "--group-auth=loose"],
+    &["ask", "--group-auth=loose"],
+    &["ask", "--service-auth", "--", "f"],
+    &["ask", "--help"],
+];
+
+#[test]
+fn options_choose_the_rules_of_rights(rt: HostRuntime) -> Result<(), Fail> {
+    for (words, expected) in RULES {
+        assert_run(&rt, *words, &WITH_SERVICES, SEEN, (0, *expected, b""))?;
+    }
+    let usage = b"usage: lqd ask|replay|serve|load\n".as_slice();
+    for words in FAULTY {
+        assert_run(&rt, *words, &WITH_SERVICES, SEEN, (1, b"", usage))?;
     }
     Ok(())
 }

@@ -4,7 +4,7 @@ use Rattle.std.proofs.lemmas.List.{get_or-map, length-map, map-append}
 use Rattle.lq_request.specs.declared.entry.StatEntry.{StatEntry}
 use Rattle.lq_stats.specs.declared.cell.StatCell.{StatCell}
 use Rattle.lq_stats.specs.Columns.{column_cells}
-use Rattle.lq_tables.specs.Cells.{cell_of}
+use Rattle.lq_query.specs.Lines.{seen_cells}
 use Rattle.lq_tables.specs.declared.row.Row.{Row}
 use Rattle.lq_query.specs.Counting.{entry_of}
 use Rattle.lq_query.specs.Groups.{stat_cell}
@@ -18,7 +18,7 @@ loop-place-preserved c =
     let other = c.index-entries-place.result in
     let item = get_or entries place other in
     let stats : List StatEntry = map entry_of c.args.entries.now in
-    let column_of : StatEntry → List StatCell = λ entry. map (λ (row : Row). stat_cell (cell_of c.args.self.now.live.now.state row) entry) c.args.rows.now in
+    let column_of : StatEntry → List StatCell = λ entry. map (λ (row : Row). stat_cell (seen_cells c.args.self.now.sight row) entry) c.args.rows.now in
     let within : place < length stats = omega (arith, c.loop-place-test.true, ap length c.loop-place.invariant.same, length-map entries entry_of, length-map c.args.entries.now entry_of) in
     let bound : place < length entries = omega (arith, c.loop-place-test.true, ap length c.loop-place.invariant.same, length-map entries entry_of, length-map c.args.entries.now entry_of) in
     let asked = sym (get_or-map entry_of entries place other (entry_of item) bound)

@@ -1,6 +1,6 @@
 use Rattle.std.proofs.Common.{◌≡◌, map, take}
 use Rattle.lq_stats.specs.Columns.{column_cells}
-use Rattle.lq_tables.specs.Cells.{cell_of}
+use Rattle.lq_query.specs.Lines.{seen_cells}
 use Rattle.lq_query.specs.Counting.{entry_of}
 use Rattle.lq_query.specs.Groups.{stat_cell}
 use Rattle.lq_query.proofs.page.Page.cells.Given as goal
@@ -9,5 +9,5 @@ abbrev pub invariant-loop-place : goal.invariant-loop-place
 invariant-loop-place l = record {
   same : map entry_of l.entries ≡ map entry_of l.fn.entries;
   cells : map column_cells l.cells.items
-      ≡ map (λ entry. map (λ row. stat_cell (cell_of l.self.live.now.state row) entry) l.rows) (take l.place (map entry_of l.fn.entries));
+      ≡ map (λ entry. map (λ row. stat_cell (seen_cells l.self.sight row) entry) l.rows) (take l.place (map entry_of l.fn.entries));
 }

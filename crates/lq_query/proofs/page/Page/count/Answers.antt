@@ -5,7 +5,7 @@ use Rattle.lq_request.specs.declared.entry.StatEntry.{StatEntry}
 use Rattle.lq_schema.specs.Value.{Value}
 use Rattle.lq_schema.specs.declared.columns.Col.{Col}
 use Rattle.lq_stats.specs.Groups.{Row as StatsRow}
-use Rattle.lq_tables.specs.Cells.{cell_of}
+use Rattle.lq_query.specs.Lines.{seen_cells}
 use Rattle.lq_query.specs.Counting.{Counts, entry_of}
 use Rattle.lq_query.specs.Groups.{stats_row}
 use Rattle.lq_query.specs.Rows.{chosen}
@@ -15,7 +15,7 @@ use Rattle.lq_query.proofs.page.Page.count.Goals as goal
 
 pub count_block-requires-clause-few : goal.count_block-requires-clause-few
 count_block-requires-clause-few c =
-    let row_of = cell_of c.args.self.now.live.now.state in
+    let row_of = seen_cells c.args.self.now.sight in
     let headers = c.args.tally.now.filter in
     let at = c.blocks-2.at in
     let rows = c.args.rows.now in
@@ -35,7 +35,7 @@ count_block-requires-clause-few c =
 
 pub blocks-2-preserved : goal.blocks-2-preserved
 blocks-2-preserved c =
-    let row_of = cell_of c.args.self.now.live.now.state in
+    let row_of = seen_cells c.args.self.now.sight in
     let columns = c.args.self.now.columns.now in
     let headers = c.args.tally.now.filter in
     let stats : List StatEntry = map entry_of c.args.tally.now.entries.items in

@@ -1,5 +1,5 @@
 use Rattle.std.proofs.Common.{◌≡◌, ◌-◌, ◌≤◌, length, map, take}
-use Rattle.lq_tables.specs.Cells.{cell_of}
+use Rattle.lq_query.specs.Lines.{seen_cells}
 use Rattle.lq_query.specs.Counting.{Counts, entry_of}
 use Rattle.lq_query.specs.Groups.{stats_row}
 use Rattle.lq_query.specs.Rows.{chosen}
@@ -11,7 +11,7 @@ invariant-blocks-2 l = record {
   filter : l.tally.filter ≡ l.fn.tally.filter;
   entries : map entry_of l.tally.entries.items ≡ map entry_of l.fn.tally.entries.items;
   counts : Counts l.fn.groups l.groups (map (stats_row l.self.columns.now (map entry_of l.fn.tally.entries.items))
-      (chosen l.fn.tally.filter (map (cell_of l.self.live.now.state) (take l.at l.rows))));
+      (chosen l.fn.tally.filter (map (seen_cells l.self.sight) (take l.at l.rows))));
 }
 
 abbrev pub decreases-blocks-2 : goal.decreases-blocks-2

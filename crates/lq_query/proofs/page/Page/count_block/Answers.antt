@@ -9,7 +9,7 @@ use Rattle.lq_stats.specs.Groups.{Row as StatsRow}
 use Rattle.lq_stats.specs.declared.cell.StatCell.{StatCell}
 use Rattle.lq_stats.specs.declared.kind.StatKind.{StatKind}
 use Rattle.lq_stats.specs.declared.spec.StatsSpec.{StatsSpec}
-use Rattle.lq_tables.specs.Cells.{cell_of}
+use Rattle.lq_query.specs.Lines.{seen_cells}
 use Rattle.lq_tables.specs.declared.row.Row.{Row}
 use Rattle.lq_query.specs.Counting.{Counts, counted_from, entry_of}
 use Rattle.lq_query.specs.Groups.{stat_cell, stat_kind}
@@ -19,7 +19,7 @@ use Rattle.lq_query.proofs.page.Page.count_block.Goals as goal
 
 pub returns-then-not-has_mark-clause-counts : goal.returns-then-not-has_mark-clause-counts
 returns-then-not-has_mark-clause-counts c =
-    let row_of = cell_of c.args.self.now.live.now.state in
+    let row_of = seen_cells c.args.self.now.sight in
     let columns = c.args.self.now.columns.now in
     let stats : List StatEntry = map entry_of c.args.tally.now.entries.items in
     let cells = map (λ (entry : StatEntry). map (λ (row : Row). stat_cell (row_of row) entry) c.args.rows.now) stats in
@@ -32,7 +32,7 @@ returns-then-not-has_mark-clause-counts c =
 
 pub count_marked-requires-clause-taken : goal.count_marked-requires-clause-taken
 count_marked-requires-clause-taken c =
-    let row_of = cell_of c.args.self.now.live.now.state in
+    let row_of = seen_cells c.args.self.now.sight in
     let count = length c.args.rows.now in
     let stats : List StatEntry = map entry_of c.args.tally.now.entries.items in
     let cells = ap (map column_cells) c.deref-3.ensures.value ∙ c.in_ok-cells.ensures.cells
@@ -42,7 +42,7 @@ count_marked-requires-clause-taken c =
 
 pub returns-clause-counts : goal.returns-clause-counts
 returns-clause-counts c =
-    let row_of = cell_of c.args.self.now.live.now.state in
+    let row_of = seen_cells c.args.self.now.sight in
     let columns = c.args.self.now.columns.now in
     let stats : List StatEntry = map entry_of c.args.tally.now.entries.items in
     let key : Row → Key = λ row. row_cells columns (row_of row) in

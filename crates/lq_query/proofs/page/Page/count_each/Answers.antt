@@ -4,7 +4,7 @@ use Rattle.lq_stats.specs.Groups.{Key}
 use Rattle.lq_stats.specs.declared.cell.StatCell.{StatCell}
 use Rattle.lq_stats.specs.Groups.{Row as StatsRow}
 use Rattle.lq_stats.specs.Columns.{column_cells}
-use Rattle.lq_tables.specs.Cells.{cell_of}
+use Rattle.lq_query.specs.Lines.{seen_cells}
 use Rattle.lq_tables.specs.declared.row.Row.{Row}
 use Rattle.lq_tables.specs.declared.row.Row.TheVariants.{Host}
 use Rattle.lq_query.specs.Counting.{Counts, counted_from}
@@ -15,7 +15,7 @@ use Rattle.lq_query.proofs.page.Page.count_each.Goals as goal
 
 pub count_row-requires-clause-few : goal.count_row-requires-clause-few
 count_row-requires-clause-few c =
-    let key : Row → Key = λ row. row_cells c.args.self.now.columns.now (cell_of c.args.self.now.live.now.state row) in
+    let key : Row → Key = λ row. row_cells c.args.self.now.columns.now (seen_cells c.args.self.now.sight row) in
     omega (
       arith,
       c.loop-place.invariant.count,
@@ -27,7 +27,7 @@ count_row-requires-clause-few c =
 
 pub loop-place-preserved : goal.loop-place-preserved
 loop-place-preserved c =
-    let key : Row → Key = λ row. row_cells c.args.self.now.columns.now (cell_of c.args.self.now.live.now.state row) in
+    let key : Row → Key = λ row. row_cells c.args.self.now.columns.now (seen_cells c.args.self.now.sight row) in
     let columns : List (List StatCell) = map column_cells c.args.cells.now in
     let row : Row = Host (record { 0 = 0 }) in
     let more = counted_more key columns c.args.marks.now c.args.rows.now c.loop-place.place row c.requires.marks c.loop-place-test.true in
@@ -53,7 +53,7 @@ loop-place-preserved c =
 
 pub returns : goal.returns
 returns c =
-    let key : Row → Key = λ row. row_cells c.args.self.now.columns.now (cell_of c.args.self.now.live.now.state row) in
+    let key : Row → Key = λ row. row_cells c.args.self.now.columns.now (seen_cells c.args.self.now.sight row) in
     let columns : List (List StatCell) = map column_cells c.args.cells.now in
     let all = c.loop-place-test.false in
     subst (λ (rows : List StatsRow). Counts c.args.groups.now c.loop-place.groups rows)

@@ -2,7 +2,7 @@ use Rattle.std.proofs.Common.{◌≡◌, length, map, sym, ◌∙◌}
 use Rattle.std.proofs.lemmas.Bool.{eqb-true}
 use Rattle.lq_stats.specs.Columns.{column_cells}
 use Rattle.lq_stats.specs.Groups.{Key}
-use Rattle.lq_tables.specs.Cells.{cell_of}
+use Rattle.lq_query.specs.Lines.{seen_cells}
 use Rattle.lq_tables.specs.declared.row.Row.{Row}
 use Rattle.lq_query.specs.Rows.{row_cells}
 use Rattle.lq_query.proofs.CountLemmas.{cells_of_each, counts_marked, no_key}
@@ -13,7 +13,7 @@ count_each-requires-clause-taken c = cells_of_each _ _ _ c.requires.taken
 
 pub returns-then-is_empty : goal.returns-then-is_empty
 returns-then-is_empty c =
-    let row_of = cell_of c.args.self.now.live.now.state in
+    let row_of = seen_cells c.args.self.now.sight in
     let columns = c.args.self.now.columns.now in
     let none : length columns ≡ 0 = eqb-true (length columns) 0 (sym c.is_empty.ensures ∙ c.if-is_empty.true) in
     let key : Row → Key = λ row. row_cells columns (row_of row) in

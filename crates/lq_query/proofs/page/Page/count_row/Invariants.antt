@@ -8,6 +8,6 @@ abbrev pub invariant-loop-column : goal.invariant-loop-column
 invariant-loop-column l = record {
   spec : l.groups.spec ≡ l.fn.groups.spec;
   count : l.groups.count ≡ l.fn.groups.count;
-  next : l.groups.next ≡ map (cell_of l.shown.state l.shown.row) (take l.column-index l.self.columns.now);
+  next : l.groups.next ≡ map (cell_of l.shown.state l.shown.view l.shown.row) (take l.column-index l.self.columns.now);
   groups : (before : List Row) → AreGroupsOf l.fn.groups before → AreGroupsOf l.groups before;
 }

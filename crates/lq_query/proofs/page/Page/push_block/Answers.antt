@@ -2,7 +2,7 @@ use Rattle.std.proofs.Common.{◌≡◌, ◌-◌, List, length, map, subst, sym,
 use Rattle.std.proofs.lemmas.List.{length-map}
 use Rattle.lq_schema.specs.Value.{Value}
 use Rattle.lq_schema.specs.declared.columns.Col.{Col}
-use Rattle.lq_tables.specs.Cells.{cell_of}
+use Rattle.lq_query.specs.Lines.{seen_cells}
 use Rattle.lq_query.specs.Lines.{HasLines, IsTooLarge, first_rows, marked}
 use Rattle.lq_query.specs.declared.selection.Selection.{Selection}
 use Rattle.lq_query.proofs.RowLemmas.{chosen_marked, no_lines, none_marked, no_first_rows}
@@ -10,7 +10,7 @@ use Rattle.lq_query.proofs.page.Page.push_block.Goals as goal
 
 pub returns-then-not-has_mark-clause-lines : goal.returns-then-not-has_mark-clause-lines
 returns-then-not-has_mark-clause-lines c =
-    let row_of = cell_of c.args.self.now.live.now.state in
+    let row_of = seen_cells c.args.self.now.sight in
     let none = none_marked c.deref.result.now c.args.rows.now (sym c.has_mark.ensures ∙ c.if-not-has_mark.true) in
     let rows = ap (λ marks. map row_of (marked marks c.args.rows.now)) (c.deref.ensures.value ∙ c.in_ok-marks.ensures.marks)
     ∙ chosen_marked c.args.selection.now.filter row_of c.args.rows.now in
@@ -19,7 +19,7 @@ returns-then-not-has_mark-clause-lines c =
 
 pub returns-then-not-has_mark-clause-left : goal.returns-then-not-has_mark-clause-left
 returns-then-not-has_mark-clause-left c =
-    let row_of = cell_of c.args.self.now.live.now.state in
+    let row_of = seen_cells c.args.self.now.sight in
     let none = none_marked c.deref.result.now c.args.rows.now (sym c.has_mark.ensures ∙ c.if-not-has_mark.true) in
     let rows = ap (λ marks. map row_of (marked marks c.args.rows.now)) (c.deref.ensures.value ∙ c.in_ok-marks.ensures.marks)
     ∙ chosen_marked c.args.selection.now.filter row_of c.args.rows.now in
@@ -27,7 +27,7 @@ returns-then-not-has_mark-clause-left c =
 
 pub returns-clause-lines : goal.returns-clause-lines
 returns-clause-lines c =
-    let row_of = cell_of c.args.self.now.live.now.state in
+    let row_of = seen_cells c.args.self.now.sight in
     let rows = ap (λ marks. map row_of (marked marks c.args.rows.now)) (c.deref-2.ensures.value ∙ c.in_ok-marks.ensures.marks)
     ∙ chosen_marked c.args.selection.now.filter row_of c.args.rows.now in
     let lines = subst (λ (selection : Selection). OnOk c.push_marked.result (HasLines c.args.writer.now c.push_marked.new.writer
@@ -38,7 +38,7 @@ returns-clause-lines c =
 
 pub returns-clause-large : goal.returns-clause-large
 returns-clause-large c = λ large.
-    let row_of = cell_of c.args.self.now.live.now.state in
+    let row_of = seen_cells c.args.self.now.sight in
     let rows = ap (λ marks. map row_of (marked marks c.args.rows.now)) (c.deref-2.ensures.value ∙ c.in_ok-marks.ensures.marks)
     ∙ chosen_marked c.args.selection.now.filter row_of c.args.rows.now in
     let lines = subst (λ (selection : Selection). IsTooLarge c.args.writer.now
@@ -49,7 +49,7 @@ returns-clause-large c = λ large.
 
 pub returns-clause-left : goal.returns-clause-left
 returns-clause-left c =
-    let row_of = cell_of c.args.self.now.live.now.state in
+    let row_of = seen_cells c.args.self.now.sight in
     let rows = ap (λ marks. map row_of (marked marks c.args.rows.now)) (c.deref-2.ensures.value ∙ c.in_ok-marks.ensures.marks)
     ∙ chosen_marked c.args.selection.now.filter row_of c.args.rows.now in
     let count = sym (length-map (marked c.deref-2.result.now c.args.rows.now) row_of) ∙ ap length rows in

@@ -1,6 +1,6 @@
 use Rattle.std.proofs.Common.{rules, ◌≡◌, Err, arith}
 use Rattle.lq_output.specs.declared.error.WriteErr.TheVariants.{TooLarge}
-use Rattle.lq_tables.specs.Cells.{cell_of}
+use Rattle.lq_query.specs.Lines.{seen_cells}
 use Rattle.lq_tables.specs.declared.row.Row.{Row}
 use Rattle.lq_tables.specs.declared.row.Row.TheVariants.{Host}
 use Rattle.lq_query.specs.Rows.{row_cells}
@@ -10,9 +10,9 @@ use Rattle.lq_query.proofs.page.Page.push_each.Goals as goal
 pub returns-in_err-push_row-clause-large : goal.returns-in_err-push_row-clause-large
 returns-in_err-push_row-clause-large c = λ large.
     let failed : c.push_row.result ≡ Err TooLarge = search (rules, large) in
-    line_large (λ (row : Row). row_cells c.args.self.now.columns.now (cell_of c.args.self.now.live.now.state row)) c.args.rows.now c.loop-row.row-index (Host (record { 0 = 0 }))
+    line_large (λ (row : Row). row_cells c.args.self.now.columns.now (seen_cells c.args.self.now.sight row)) c.args.rows.now c.loop-row.row-index (Host (record { 0 = 0 }))
     _ _ c.loop-row-test.true c.loop-row.invariant (c.push_row.ensures.large failed)
 
 pub returns-clause-lines : goal.returns-clause-lines
 returns-clause-lines c =
-    lines_all (λ (row : Row). row_cells c.args.self.now.columns.now (cell_of c.args.self.now.live.now.state row)) c.args.rows.now c.loop-row.row-index _ _ (omega (arith, c.loop-row-test.false)) c.loop-row.invariant
+    lines_all (λ (row : Row). row_cells c.args.self.now.columns.now (seen_cells c.args.self.now.sight row)) c.args.rows.now c.loop-row.row-index _ _ (omega (arith, c.loop-row-test.false)) c.loop-row.invariant

@@ -3,7 +3,7 @@ use Rattle.std.proofs.lemmas.List.{length-map}
 use Rattle.lq_stats.specs.Groups.{lines_of, shown_line}
 use Rattle.lq_stats.specs.declared.spec.StatLine.{StatLine}
 use Rattle.lq_stats.specs.declared.spec.StatsSpec.{StatsSpec}
-use Rattle.lq_tables.specs.Cells.{cell_of}
+use Rattle.lq_query.specs.Lines.{seen_cells}
 use Rattle.lq_schema.specs.Value.{Value}
 use Rattle.lq_query.specs.Answer.{first_lines}
 use Rattle.lq_query.specs.Groups.{line_cells, stat_kind, stats_row, stats_spec}
@@ -16,7 +16,7 @@ use Rattle.lq_query.proofs.page.Page.push_groups.Goals as goal
 pub push_group_lines-requires : goal.push_group_lines-requires
 push_group_lines-requires c =
     let request = c.args.request.now in
-    let rows = map (stats_row request.columns request.stats) (chosen request.filter (map (cell_of c.args.self.now.live.now.state) c.args.rows.now)) in
+    let rows = map (stats_row request.columns request.stats) (chosen request.filter (map (seen_cells c.args.self.now.sight) c.args.rows.now)) in
     let shown = c.in_ok-lines.ensures rows c.in_ok-groups.ensures.groups ∙ ap (λ (spec : StatsSpec). lines_of spec rows) c.in_ok-groups.ensures.spec in
     let some : 0 < length (stats_spec request.columns request.stats).entries = omega (arith, c.requires.some, length-map request.stats stat_kind) in
     all_of_limit (λ (line : StatLine). 0 < length line.values) request.limit c.first_of_lines.result.now c.as_slice.result.now c.first_of_lines.ensures.none c.first_of_lines.ensures.some
@@ -26,7 +26,7 @@ push_group_lines-requires c =
 pub returns-clause-lines : goal.returns-clause-lines
 returns-clause-lines c =
     let request = c.args.request.now in
-    let rows = map (stats_row request.columns request.stats) (chosen request.filter (map (cell_of c.args.self.now.live.now.state) c.args.rows.now)) in
+    let rows = map (stats_row request.columns request.stats) (chosen request.filter (map (seen_cells c.args.self.now.sight) c.args.rows.now)) in
     let line : StatLine → List Value = λ line. line_cells (shown_line line) in
     let shown = c.in_ok-lines.ensures rows c.in_ok-groups.ensures.groups ∙ ap (λ (spec : StatsSpec). lines_of spec rows) c.in_ok-groups.ensures.spec in
     let all = ap (map line) c.as_slice.ensures ∙ sym (map-map line_cells shown_line c.in_ok-lines.lines) ∙ ap (map line_cells) shown in
@@ -37,7 +37,7 @@ returns-clause-lines c =
 pub returns-clause-large : goal.returns-clause-large
 returns-clause-large c = λ large.
     let request = c.args.request.now in
-    let rows = map (stats_row request.columns request.stats) (chosen request.filter (map (cell_of c.args.self.now.live.now.state) c.args.rows.now)) in
+    let rows = map (stats_row request.columns request.stats) (chosen request.filter (map (seen_cells c.args.self.now.sight) c.args.rows.now)) in
     let line : StatLine → List Value = λ line. line_cells (shown_line line) in
     let shown = c.in_ok-lines.ensures rows c.in_ok-groups.ensures.groups ∙ ap (λ (spec : StatsSpec). lines_of spec rows) c.in_ok-groups.ensures.spec in
     let all = ap (map line) c.as_slice.ensures ∙ sym (map-map line_cells shown_line c.in_ok-lines.lines) ∙ ap (map line_cells) shown in

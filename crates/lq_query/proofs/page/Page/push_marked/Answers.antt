@@ -1,6 +1,6 @@
 use Rattle.std.proofs.Common.{rules, ◌≡◌, Err, ◌∙◌}
 use Rattle.lq_output.specs.declared.error.WriteErr.TheVariants.{TooLarge}
-use Rattle.lq_tables.specs.Cells.{cell_of}
+use Rattle.lq_query.specs.Lines.{seen_cells}
 use Rattle.lq_tables.specs.declared.row.Row.TheVariants.{Host}
 use Rattle.lq_query.proofs.RowLemmas.{marked_added, marked_large, marked_left, not_marked_more}
 use Rattle.lq_query.proofs.page.Page.push_marked.Goals.{then-marks-place+in_ok-push_next, else-marks-place}
@@ -9,7 +9,7 @@ use Rattle.lq_query.proofs.page.Page.push_marked.Goals as goal
 pub returns-in_err-push_next-clause-large : goal.returns-in_err-push_next-clause-large
 returns-in_err-push_next-clause-large c = λ large.
     let failed : c.push_next.result ≡ Err TooLarge = search (rules, large) in
-    marked_large c.args.marks.now c.args.rows.now c.loop-place.place (Host (record { 0 = 0 })) c.requires.marks c.loop-place-test.true c.args.self.now.columns.now (cell_of c.args.self.now.live.now.state)
+    marked_large c.args.marks.now c.args.rows.now c.loop-place.place (Host (record { 0 = 0 })) c.requires.marks c.loop-place-test.true c.args.self.now.columns.now (seen_cells c.args.self.now.sight)
     _ _ c.args.selection.now.left c.loop-place.selection.left c.loop-place.invariant.lines c.loop-place.invariant.left c.if-marks-place.true (c.push_next.ensures.large failed)
 
 pub loop-place-preserved : goal.loop-place-preserved
@@ -17,7 +17,7 @@ loop-place-preserved c = elim c.if-marks-place.branch [
   | then-marks-place+in_ok-push_next w ↦ record {
     same = rw (w.selection-is) (w.push_next.ensures.same ∙ c.loop-place.invariant.same);
     lines = rw (w.writer-is)
-        (marked_added c.args.marks.now c.args.rows.now c.loop-place.place (Host (record { 0 = 0 })) c.requires.marks c.loop-place-test.true c.args.self.now.columns.now (cell_of c.args.self.now.live.now.state)
+        (marked_added c.args.marks.now c.args.rows.now c.loop-place.place (Host (record { 0 = 0 })) c.requires.marks c.loop-place-test.true c.args.self.now.columns.now (seen_cells c.args.self.now.sight)
         _ _ c.args.selection.now.left c.loop-place.selection.left c.loop-place.invariant.lines c.loop-place.invariant.left w.if-marks-place.true _ w.in_ok-push_next.ensures.lines);
     left = rw (w.selection-is)
         (marked_left c.args.marks.now c.args.rows.now c.loop-place.place (Host (record { 0 = 0 })) c.requires.marks c.loop-place-test.true

@@ -1,5 +1,5 @@
 use Rattle.std.proofs.Common.{◌≡◌, ◌-◌, length, take, map}
-use Rattle.lq_tables.specs.Cells.{cell_of}
+use Rattle.lq_query.specs.Lines.{seen_cells}
 use Rattle.lq_query.specs.Lines.{HasLines, first_rows, marked}
 use Rattle.lq_query.proofs.page.Page.push_marked.Given as goal
 
@@ -7,6 +7,6 @@ abbrev pub invariant-loop-place : goal.invariant-loop-place
 invariant-loop-place l = record {
   same : l.selection.filter ≡ l.fn.selection.filter;
   lines : HasLines l.fn.writer l.writer (first_rows l.self.columns.now l.fn.selection.left
-      (map (cell_of l.self.live.now.state) (marked (take l.place l.marks) (take l.place l.rows))));
+      (map (seen_cells l.self.sight) (marked (take l.place l.marks) (take l.place l.rows))));
   left : l.selection.left ≡ l.fn.selection.left - length (marked (take l.place l.marks) (take l.place l.rows));
 }

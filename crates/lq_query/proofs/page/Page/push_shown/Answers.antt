@@ -1,5 +1,5 @@
 use Rattle.std.proofs.Common.{map, subst, OnOk}
-use Rattle.lq_tables.specs.Cells.{cell_of}
+use Rattle.lq_query.specs.Lines.{seen_cells}
 use Rattle.lq_query.specs.Lines.{HasLines, IsTooLarge, first_rows}
 use Rattle.lq_query.specs.Rows.{chosen}
 use Rattle.lq_query.proofs.RowLemmas.{limited_lines}
@@ -7,7 +7,7 @@ use Rattle.lq_query.proofs.page.Page.push_shown.Goals as goal
 
 pub returns-clause-lines : goal.returns-clause-lines
 returns-clause-lines c =
-    let row_of = cell_of c.args.self.now.live.now.state in
+    let row_of = seen_cells c.args.self.now.sight in
     let request = c.args.request.now in
     subst (λ lines. OnOk c.push_chosen.result (HasLines c.args.writer.now c.push_chosen.new.writer lines))
     (limited_lines request.columns request.filter row_of c.args.rows.now request.limit c.most_rows-most.result c.most_rows-most.ensures.none c.most_rows-most.ensures.some)
@@ -16,7 +16,7 @@ returns-clause-lines c =
 
 pub returns-clause-large : goal.returns-clause-large
 returns-clause-large c = λ large.
-    let row_of = cell_of c.args.self.now.live.now.state in
+    let row_of = seen_cells c.args.self.now.sight in
     let request = c.args.request.now in
     subst (IsTooLarge c.args.writer.now)
     (limited_lines request.columns request.filter row_of c.args.rows.now request.limit c.most_rows-most.result c.most_rows-most.ensures.none c.most_rows-most.ensures.some)

@@ -1,0 +1,238 @@
+-- The rows of each table, at states that agree in what a view shows.
+use Rattle.std.proofs.Common.{◌≡◌, ℕ, Bool, true, false, ◌&&◌, Option, Some, None, IfSome, List, [], ◌∷◌, ◌++◌, map, filter, refl, sym, ap, ◌∙◌}
+use Rattle.std.specs.List.{enumerate_from, flat_map, range_with_len}
+use Rattle.std.specs.Option.{option_and_then, option_map}
+use Rattle.lq_records.specs.declared.base.HostGroup.{HostGroup}
+use Rattle.lq_records.specs.declared.base.Service.{Service}
+use Rattle.lq_records.specs.declared.base.ServiceGroup.{ServiceGroup}
+use Rattle.lq_records.specs.declared.ids.HostGroupId.{HostGroupId}
+use Rattle.lq_records.specs.declared.ids.HostId.{HostId}
+use Rattle.lq_records.specs.declared.object.Object.{Object}
+use Rattle.lq_records.specs.declared.object.Object.TheVariants as object
+use Rattle.lq_events.specs.declared.status.Comment.{Comment}
+use Rattle.lq_events.specs.declared.status.Downtime.{Downtime}
+use Rattle.lq_schema.specs.declared.columns.Col.{Col}
+use Rattle.lq_schema.specs.declared.columns.OwnColumn.{OwnColumn}
+use Rattle.lq_schema.specs.declared.columns.OwnColumn.TheVariants as own
+use Rattle.lq_schema.specs.declared.columns.Table.{Table}
+use Rattle.lq_schema.specs.declared.columns.Table.TheVariants as table
+use Rattle.lq_schema.specs.declared.program.ProgramColumn.{ProgramColumn}
+use Rattle.lq_schema.specs.declared.program.ProgramColumn.TheVariants as program
+use Rattle.lq_schema.specs.Kinds.{program_kind}
+use Rattle.lq_schema.specs.Value.{Value, empty_value}
+use Rattle.lq_live.specs.Ids.{HasRisingIds}
+use Rattle.lq_live.specs.State.{State}
+use Rattle.lq_auth.specs.Rights.{sees_host, sees_host_group, sees_service, sees_service_group}
+use Rattle.lq_auth.specs.declared.view.View.{View}
+use Rattle.lq_tables.specs.About.{host_of_object, row_comment, row_downtime, row_host_group, row_object, row_service_group, service_of_object}
+use Rattle.lq_tables.specs.Cells.{cell_of, contact_group_cell, host_group_part, host_part, own_cell, service_group_part, service_part}
+use Rattle.lq_tables.specs.Parts.{command_cell, comment_cell, contact_cell, downtime_cell, period_cell, program_cell, program_part, schema_cell}
+use Rattle.lq_tables.specs.Rows.{group_service_rows, host_group_rows, numbered, rows_of, sees_object, sees_row, service_group_rows, service_rows, table_rows}
+use Rattle.lq_tables.specs.declared.row.Row.{Row}
+use Rattle.lq_tables.specs.declared.row.Row.TheVariants as row
+use Rattle.lq_tables.proofs.OwnLemmas.{own_of}
+use Rattle.lq_query.specs.Rows.{seen_rows}
+use Rattle.lq_query.specs.Isolation.{AgreesIn, is_shown}
+use Rattle.lq_query.proofs.KeptLemmas.{kept_of_same, made_of, twice_kept}
+use Rattle.lq_query.proofs.ShownLemmas.{and_right, host_column_same, host_group_same, like, seen_shown, service_column_same, service_group_same}
+
+-- ---- rows that the base alone has
+
+-- a row that is about no downtime and no comment
+abbrev is_fixed : Row → Bool
+is_fixed (row.Downtime id) = false
+is_fixed (row.Comment id) = false
+is_fixed each = true
+
+abbrev AreFixed : List Row → Type 0
+AreFixed [] = Unit {0}
+AreFixed (each ∷ rows) = (is_fixed each ≡ true) × AreFixed rows
+
+fixed_map : {A : Type 0} (made : A → Row) → ((item : A) → is_fixed (made item) ≡ true) → (items : List A) → AreFixed (map made items)
+fixed_map made fixed [] = tt
+fixed_map made fixed (item ∷ items) = (fixed item, fixed_map made fixed items)
+
+fixed_both : (front back : List Row) → AreFixed front → AreFixed back → AreFixed (front ++ back)
+fixed_both [] back front_fixed back_fixed = back_fixed
+fixed_both (each ∷ front) back front_fixed back_fixed = (front_fixed.0, fixed_both front back front_fixed.1 back_fixed)
+
+fixed_flat : {A : Type 0} (made : A → List Row) → ((item : A) → AreFixed (made item)) → (items : List A) → AreFixed (flat_map made items)
+fixed_flat made fixed [] = tt
+fixed_flat made fixed (item ∷ items) = fixed_both (made item) (flat_map made items) (fixed item) (fixed_flat made fixed items)
+
+hosts_fixed : (item : ℕ × HostGroup) → AreFixed (host_group_rows item)
+hosts_fixed (place, group) = fixed_map (row.HostOf (record { 0 = place })) (λ id. refl) group.members
+
+services_fixed : (item : ℕ × ServiceGroup) → AreFixed (service_group_rows item)
+services_fixed (place, group) = fixed_map (row.ServiceOf (record { 0 = place })) (λ id. refl) group.members
+
+host_services_fixed : (services : List Service) (group : HostGroupId) (host : HostId) → AreFixed (service_rows services group host)
+host_services_fixed services group host = fixed_map (λ place. row.GroupService group (record { 0 = place })) (λ place. refl) _
+
+group_services_fixed : (services : List Service) (item : ℕ × HostGroup) → AreFixed (group_service_rows services item)
+group_services_fixed services (place, group) =
+    fixed_flat (service_rows services (record { 0 = place })) (host_services_fixed services (record { 0 = place })) group.members
+
+module _ (s t : State) (view : View) (agree : AgreesIn view s (like s t)) where
+  program_cell_same : (column : ProgramColumn) → program_cell s column ≡ program_cell (like s t) column
+  program_cell_same program.ProgramVersion = refl
+  program_cell_same _ = refl
+
+  program_same : (each : Row) (column : ProgramColumn) → program_part s each column ≡ program_part (like s t) each column
+  program_same row.Status column = program_cell_same column
+  program_same _ column = refl
+
+  cells_of_row : (each : Row) (about : Option Object) → row_object s each ≡ about → row_object (like s t) each ≡ about
+      → IfSome about (λ found. is_shown s.base view found ≡ true) → row_downtime s each ≡ row_downtime (like s t) each → row_comment s each ≡ row_comment (like s t) each
+      → (column : OwnColumn) → own_cell s view each column ≡ own_cell (like s t) view each column
+  cells_of_row each about here there shown downtime comment (own.Host column) =
+      ap (λ found. host_part s view (option_and_then (host_of_object s) found) column) here ∙ host_column_same s t view agree about shown column
+      ∙ sym (ap (λ found. host_part (like s t) view (option_and_then (host_of_object (like s t)) found) column) there)
+  cells_of_row each about here there shown downtime comment (own.Service column) =
+      ap (λ found. service_part s (option_and_then (service_of_object s) found) column) here ∙ service_column_same s t view agree about shown column
+      ∙ sym (ap (λ found. service_part (like s t) (option_and_then (service_of_object (like s t)) found) column) there)
+  cells_of_row each about here there shown downtime comment (own.HostGroup column) = host_group_same s t view agree (row_host_group each) column
+  cells_of_row each about here there shown downtime comment (own.ServiceGroup column) = service_group_same s t view agree (row_service_group each) column
+  cells_of_row each about here there shown downtime comment (own.Downtime column) = ap (λ found. downtime_cell found column) downtime
+  cells_of_row each about here there shown downtime comment (own.Comment column) = ap (λ found. comment_cell found column) comment
+  cells_of_row each about here there shown downtime comment (own.Program column) = program_same each column
+  cells_of_row each about here there shown downtime comment _ = refl
+
+  row_same : (each : Row) → is_fixed each ≡ true → sees_row s view each ≡ true → cell_of s view each ≡ cell_of (like s t) view each
+  row_same (row.Host id) fixed sees =
+      λ i column. cells_of_row (row.Host id) (Some (object.Host id)) refl refl (seen_shown s t view agree (object.Host id) sees) refl refl column.own i
+  row_same (row.Service id) fixed sees =
+      λ i column. cells_of_row (row.Service id) (Some (object.Service id)) refl refl (seen_shown s t view agree (object.Service id) sees) refl refl column.own i
+  row_same (row.HostOf group id) fixed sees =
+      λ i column. cells_of_row (row.HostOf group id) (Some (object.Host id)) refl refl
+      (seen_shown s t view agree (object.Host id) (and_right (sees_host_group view group) (sees_host view id) sees)) refl refl column.own i
+  row_same (row.ServiceOf group id) fixed sees =
+      λ i column. cells_of_row (row.ServiceOf group id) (Some (object.Service id)) refl refl
+      (seen_shown s t view agree (object.Service id) (and_right (sees_service_group view group) (sees_service view id) sees)) refl refl column.own i
+  row_same (row.GroupService group id) fixed sees =
+      λ i column. cells_of_row (row.GroupService group id) (Some (object.Service id)) refl refl
+      (seen_shown s t view agree (object.Service id) (and_right (sees_host_group view group) (sees_service view id) sees)) refl refl column.own i
+  row_same (row.HostGroup id) fixed sees = λ i column. cells_of_row (row.HostGroup id) None refl refl tt refl refl column.own i
+  row_same (row.ServiceGroup id) fixed sees = λ i column. cells_of_row (row.ServiceGroup id) None refl refl tt refl refl column.own i
+  row_same (row.Contact id) fixed sees = λ i column. cells_of_row (row.Contact id) None refl refl tt refl refl column.own i
+  row_same (row.ContactGroup id) fixed sees = λ i column. cells_of_row (row.ContactGroup id) None refl refl tt refl refl column.own i
+  row_same (row.Command id) fixed sees = λ i column. cells_of_row (row.Command id) None refl refl tt refl refl column.own i
+  row_same (row.Period id) fixed sees = λ i column. cells_of_row (row.Period id) None refl refl tt refl refl column.own i
+  row_same row.Status fixed sees = λ i column. cells_of_row row.Status None refl refl tt refl refl column.own i
+  row_same (row.Column place) fixed sees = λ i column. cells_of_row (row.Column place) None refl refl tt refl refl column.own i
+  row_same (row.Downtime id) fixed sees = absurd (cc)
+  row_same (row.Comment id) fixed sees = absurd (cc)
+
+  sees_same : (each : Row) → is_fixed each ≡ true → sees_row s view each ≡ sees_row (like s t) view each
+  sees_same (row.Downtime id) fixed = absurd (cc)
+  sees_same (row.Comment id) fixed = absurd (cc)
+  sees_same _ fixed = refl
+
+  fixed_first : (each : Row) (rows : List Row) (is : Bool) → sees_row s view each ≡ is → is_fixed each ≡ true
+      → map (cell_of s view) (filter (sees_row s view) rows) ≡ map (cell_of (like s t) view) (filter (sees_row (like s t) view) rows)
+      → map (cell_of s view) (filter (sees_row s view) (each ∷ rows)) ≡ map (cell_of (like s t) view) (filter (sees_row (like s t) view) (each ∷ rows))
+  fixed_first each rows true is fixed rest =
+      let there : sees_row (like s t) view each ≡ true = sym (sees_same each fixed) ∙ is in
+      rw (is, there, row_same each fixed is, rest) refl
+  fixed_first each rows false is fixed rest = let there : sees_row (like s t) view each ≡ false = sym (sees_same each fixed) ∙ is in rw (is, there) rest
+
+  fixed_same : (rows : List Row) → AreFixed rows
+      → map (cell_of s view) (filter (sees_row s view) rows) ≡ map (cell_of (like s t) view) (filter (sees_row (like s t) view) rows)
+  fixed_same [] fixed = refl
+  fixed_same (each ∷ rows) fixed = fixed_first each rows (sees_row s view each) refl fixed.0 (fixed_same rows fixed.1)
+
+  -- ---- downtimes and comments
+
+  -- the cells of a downtime or of a comment on an object
+  abbrev remark_cell : State → Option Object → Option Downtime → Option Comment → OwnColumn → Value
+  remark_cell at about downtime comment (own.Host column) = host_part at view (option_and_then (host_of_object at) about) column
+  remark_cell at about downtime comment (own.Service column) = service_part at (option_and_then (service_of_object at) about) column
+  remark_cell at about downtime comment (own.HostGroup column) = host_group_part at view None column
+  remark_cell at about downtime comment (own.ServiceGroup column) = service_group_part at view None column
+  remark_cell at about downtime comment (own.Contact column) = contact_cell None column
+  remark_cell at about downtime comment (own.ContactGroup column) = contact_group_cell at.base None column
+  remark_cell at about downtime comment (own.Command column) = command_cell None column
+  remark_cell at about downtime comment (own.Period column) = period_cell None column
+  remark_cell at about downtime comment (own.Downtime column) = downtime_cell downtime column
+  remark_cell at about downtime comment (own.Comment column) = comment_cell comment column
+  remark_cell at about downtime comment (own.Program column) = empty_value (program_kind column)
+  remark_cell at about downtime comment (own.Schema column) = schema_cell None column
+
+  remark_same : (about : Option Object) (downtime : Option Downtime) (comment : Option Comment) → IfSome about (λ found. is_shown s.base view found ≡ true)
+      → (column : OwnColumn) → remark_cell s about downtime comment column ≡ remark_cell (like s t) about downtime comment column
+  remark_same about downtime comment shown (own.Host column) = host_column_same s t view agree about shown column
+  remark_same about downtime comment shown (own.Service column) = service_column_same s t view agree about shown column
+  remark_same about downtime comment shown (own.ContactGroup column) = refl
+  remark_same about downtime comment shown _ = refl
+
+  abbrev by_downtime : State → Option Downtime → Col → Value
+  by_downtime at found column = remark_cell at (option_map (λ downtime. downtime.object) found) found None column.own
+
+  abbrev by_comment : State → Option Comment → Col → Value
+  by_comment at found column = remark_cell at (option_map (λ comment. comment.object) found) None found column.own
+
+  downtime_cells : (at : State) (id : ℕ) (column : OwnColumn) → own_cell at view (row.Downtime id) column
+      ≡ remark_cell at (option_map (λ downtime. downtime.object) (row_downtime at (row.Downtime id))) (row_downtime at (row.Downtime id)) None column
+  downtime_cells at id (own.Host column) = refl
+  downtime_cells at id _ = refl
+
+  comment_cells : (at : State) (id : ℕ) (column : OwnColumn) → own_cell at view (row.Comment id) column
+      ≡ remark_cell at (option_map (λ comment. comment.object) (row_comment at (row.Comment id))) None (row_comment at (row.Comment id)) column
+  comment_cells at id (own.Host column) = refl
+  comment_cells at id _ = refl
+
+  downtimes_are : (at : State) → HasRisingIds at
+      → seen_rows at view table.Downtimes ≡ map (by_downtime at) (map Some (filter (λ downtime. sees_object view downtime.object) at.downtimes))
+  downtimes_are at rising =
+      made_of (cell_of at view) (by_downtime at) (row_downtime at) (sees_row at view) (λ (downtime : Downtime). row.Downtime downtime.id)
+      (λ downtime. λ i column. downtime_cells at downtime.id column.own i) at.downtimes
+      ∙ ap (map (by_downtime at)) (own_of at view table.Downtimes (rows_of at view table.Downtimes) rising refl)
+
+  comments_are : (at : State) → HasRisingIds at
+      → seen_rows at view table.Comments ≡ map (by_comment at) (map Some (filter (λ comment. sees_object view comment.object) at.comments))
+  comments_are at rising =
+      made_of (cell_of at view) (by_comment at) (row_comment at) (sees_row at view) (λ (comment : Comment). row.Comment comment.id)
+      (λ comment. λ i column. comment_cells at comment.id column.own i) at.comments
+      ∙ ap (map (by_comment at)) (own_of at view table.Comments (rows_of at view table.Comments) rising refl)
+
+  downtimes_same : HasRisingIds s → HasRisingIds (like s t) → seen_rows s view table.Downtimes ≡ seen_rows (like s t) view table.Downtimes
+  downtimes_same here there =
+      downtimes_are s here
+      ∙ ap (λ (found : List Downtime). map (by_downtime s) (map Some found))
+      (kept_of_same (λ (downtime : Downtime). sees_object view downtime.object) (λ downtime. is_shown s.base view downtime.object)
+      (λ downtime sees. seen_shown s t view agree downtime.object sees) s.downtimes t.downtimes agree.downtimes)
+      ∙ twice_kept (by_downtime s) (by_downtime (like s t)) Some (λ (downtime : Downtime). sees_object view downtime.object)
+      (λ downtime sees. λ i column. remark_same (Some downtime.object) (Some downtime) None (seen_shown s t view agree downtime.object sees) column.own i) t.downtimes
+      ∙ sym (downtimes_are (like s t) there)
+
+  comments_same : HasRisingIds s → HasRisingIds (like s t) → seen_rows s view table.Comments ≡ seen_rows (like s t) view table.Comments
+  comments_same here there =
+      comments_are s here
+      ∙ ap (λ (found : List Comment). map (by_comment s) (map Some found))
+      (kept_of_same (λ (comment : Comment). sees_object view comment.object) (λ comment. is_shown s.base view comment.object)
+      (λ comment sees. seen_shown s t view agree comment.object sees) s.comments t.comments agree.comments)
+      ∙ twice_kept (by_comment s) (by_comment (like s t)) Some (λ (comment : Comment). sees_object view comment.object)
+      (λ comment sees. λ i column. remark_same (Some comment.object) None (Some comment) (seen_shown s t view agree comment.object sees) column.own i) t.comments
+      ∙ sym (comments_are (like s t) there)
+
+  -- ---- all tables
+
+  pub rows_same : HasRisingIds s → HasRisingIds (like s t) → (asked : Table) → seen_rows s view asked ≡ seen_rows (like s t) view asked
+  rows_same here there table.Downtimes = downtimes_same here there
+  rows_same here there table.Comments = comments_same here there
+  rows_same here there table.Hosts = fixed_same (table_rows s table.Hosts) (fixed_map _ (λ place. refl) _)
+  rows_same here there table.Services = fixed_same (table_rows s table.Services) (fixed_map _ (λ place. refl) _)
+  rows_same here there table.HostGroups = fixed_same (table_rows s table.HostGroups) (fixed_map _ (λ place. refl) _)
+  rows_same here there table.ServiceGroups = fixed_same (table_rows s table.ServiceGroups) (fixed_map _ (λ place. refl) _)
+  rows_same here there table.Contacts = fixed_same (table_rows s table.Contacts) (fixed_map _ (λ place. refl) _)
+  rows_same here there table.ContactGroups = fixed_same (table_rows s table.ContactGroups) (fixed_map _ (λ place. refl) _)
+  rows_same here there table.Commands = fixed_same (table_rows s table.Commands) (fixed_map _ (λ place. refl) _)
+  rows_same here there table.TimePeriods = fixed_same (table_rows s table.TimePeriods) (fixed_map _ (λ place. refl) _)
+  rows_same here there table.Status = fixed_same (table_rows s table.Status) (refl, tt)
+  rows_same here there table.Columns = fixed_same (table_rows s table.Columns) (fixed_map row.Column (λ place. refl) _)
+  rows_same here there table.HostsByGroup = fixed_same (table_rows s table.HostsByGroup) (fixed_flat host_group_rows hosts_fixed (numbered s.base.host_groups))
+  rows_same here there table.ServicesByGroup =
+      fixed_same (table_rows s table.ServicesByGroup) (fixed_flat service_group_rows services_fixed (numbered s.base.service_groups))
+  rows_same here there table.ServicesByHostGroup =
+      fixed_same (table_rows s table.ServicesByHostGroup)
+      (fixed_flat (group_service_rows s.base.services) (group_services_fixed s.base.services) (numbered s.base.host_groups))

@@ -1,0 +1,5 @@
+use Rattle.lq_query.proofs.IsolationLemmas.{isolated}
+use Rattle.lq_query.proofs.isolation.replies_are_isolated.Goals as goal
+
+pub returns : goal.returns
+returns c = isolated

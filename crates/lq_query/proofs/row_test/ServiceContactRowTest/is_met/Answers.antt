@@ -1,0 +1,5 @@
+use Rattle.std.proofs.Common.{rules}
+use Rattle.lq_query.proofs.row_test.ServiceContactRowTest.is_met.Goals as goal
+
+pub returns-in-Some : goal.returns-in-Some
+returns-in-Some c = search (c.service_lists_contact.ensures.value c.args.self.now.sight.view.now c.args.self.now.check.element.now c.requires, rules)

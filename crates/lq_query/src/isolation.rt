@@ -1,0 +1,8 @@
+ghost use Rattle.lq_query.specs.Isolation.{IsIsolated};
+
+/// What keeps one customer's hosts from another: states that agree in all that a contact sees, as
+/// `Agrees` says, give it the same reply to each query, byte for byte. The call does nothing; its
+/// contract is this law over the replies that `answer` gives.
+pub fn replies_are_isolated()
+    ensures { IsIsolated }
+{}

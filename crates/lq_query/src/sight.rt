@@ -1,0 +1,127 @@
+ghost use Rattle.std.specs.Prelude.{◌≡◌, ⊤, IfOk};
+ghost use Rattle.lq_schema.specs.Value.{shown};
+ghost use Rattle.lq_query.specs.Lines.{seen_cells};
+
+use crate::row_test::{
+    HostContact, HostNumber, HostText, ServiceContact, ServiceNumber, ServiceText,
+    keep_by_host_status, keep_by_service_status, keep_first,
+};
+use lq_auth::View;
+use lq_filter::{ElementCheck, NumberCheck, Scan, TextCheck};
+use lq_live::Live;
+use lq_records::Memory;
+use lq_schema::{Col, HostColumn, ObjectColumn, OwnColumn, ServiceColumn, Val};
+use lq_tables::{Row, RowCells, row_contains, row_number, row_text};
+use std::alloc::Global;
+
+/// A state, and what a query sees of it. Filters test the cells of its rows.
+#[derive(Clone, Copy)]
+pub struct Sight<'a> {
+    /// The state.
+    pub live: &'a Live,
+    /// What the query sees of it.
+    pub view: &'a View,
+}
+
+impl Scan for Sight<'_> {
+    type Row = Row;
+
+    ghost has = { λ _ _ _. ⊤ };
+
+    ghost cell = { λ sight row column. seen_cells sight row column };
+
+    fn get(&self, alloc: Global, row: Row, c: Col) -> Result<Val<'_>, Memory>
+        ensures { IfOk result (λ value. shown value ≡ seen_cells self.now row c) }
+    {
+        RowCells::of(self.live, row, self.view).value(alloc, c)
+    }
+
+    #[inline]
+    fn number(&self, row: Row, c: Col) -> Option<i128> {
+        row_number(self.live, row, c)
+    }
+
+    #[inline]
+    fn text(&self, row: Row, c: Col) -> Option<&str> {
+        row_text(self.live, row, c, self.view)
+    }
+
+    #[inline]
+    fn contains(&self, row: Row, c: Col, text: &str) -> Option<bool> {
+        row_contains(self.live, row, c, text)
+    }
+
+    fn keep_numbers(&self, rows: &[Row], c: Col, check: NumberCheck, marks: &mut [bool]) -> usize {
+        match c.own {
+            OwnColumn::Host(HostColumn::Status(column)) => {
+                keep_by_host_status(self, column, check, rows, marks)
+            }
+            OwnColumn::Service(ServiceColumn::Status(column)) => {
+                keep_by_service_status(self, column, check, rows, marks)
+            }
+            OwnColumn::Host(column) => {
+                keep_first(
+                    &HostNumber {
+                        sight: *self,
+                        column,
+                        check,
+                    },
+                    rows,
+                    marks,
+                )
+            }
+            OwnColumn::Service(column) => {
+                keep_first(
+                    &ServiceNumber {
+                        sight: *self,
+                        column,
+                        check,
+                    },
+                    rows,
+                    marks,
+                )
+            }
+            _ => 0,
+        }
+    }
+
+    fn keep_texts(&self, rows: &[Row], c: Col, check: TextCheck<'_>, marks: &mut [bool]) -> usize {
+        match c.own {
+            OwnColumn::Host(column) => {
+                let test = HostText {
+                    sight: *self,
+                    column,
+                    check,
+                };
+                keep_first(&test, rows, marks)
+            }
+            OwnColumn::Service(column) => {
+                let test = ServiceText {
+                    sight: *self,
+                    column,
+                    check,
+                };
+                keep_first(&test, rows, marks)
+            }
+            _ => 0,
+        }
+    }
+
+    fn keep_elements(
+        &self,
+        rows: &[Row],
+        c: Col,
+        check: ElementCheck<'_>,
+        marks: &mut [bool],
+    ) -> usize {
+        match c.own {
+            OwnColumn::Host(HostColumn::Object(ObjectColumn::Contacts)) => {
+                keep_first(&HostContact::of(self, check), rows, marks)
+            }
+            OwnColumn::Service(ServiceColumn::Object(ObjectColumn::Contacts)) => {
+                keep_first(&ServiceContact::of(self, check), rows, marks)
+            }
+            _ => 0,
+        }
+    }
+}
