@@ -2,7 +2,7 @@
 -- contact, which may be unknown.
 use Rattle.std.specs.Prelude.{ℕ, ◌==◌, ◌&&◌, ◌||◌, not, Bool, true, false, Option, Some, None, List, length, map, slice_index_or}
 use Rattle.std.specs.List.{list_all, list_any, slice_get}
-use Rattle.std.specs.Option.{option_map_or}
+use Rattle.std.specs.Option.{is_some, option_map_or}
 use Rattle.lq_records.specs.Named.{contact_named}
 use Rattle.lq_records.specs.declared.base.Base.{Base}
 use Rattle.lq_records.specs.declared.base.Host.{Host}
@@ -16,6 +16,8 @@ use Rattle.lq_records.specs.declared.ids.HostGroupId.{HostGroupId}
 use Rattle.lq_records.specs.declared.ids.HostId.{HostId}
 use Rattle.lq_records.specs.declared.ids.ServiceGroupId.{ServiceGroupId}
 use Rattle.lq_records.specs.declared.ids.ServiceId.{ServiceId}
+use Rattle.lq_records.specs.declared.object.Object.{Object}
+use Rattle.lq_records.specs.declared.object.Object.TheVariants as object
 use Rattle.lq_auth.specs.declared.view.Seen.{Seen}
 use Rattle.lq_auth.specs.declared.view.View.{View}
 use Rattle.lq_auth.specs.declared.view.View.TheVariants as view
@@ -83,9 +85,10 @@ pub record BaseContact : Type 0 where
   pub base : Base
   pub contact : Option ContactId
 
--- of each object of a base, whether a contact sees it
+-- of each object of a base, whether a contact sees it, and whether the base has the contact
 abbrev pub seen_by : Base → Option ContactId → Seen
 seen_by base contact = record {
+  known = is_some contact;
   hosts = map (is_host_seen base contact) base.hosts;
   services = map (is_service_seen base contact) base.services;
   host_groups = map (is_host_group_seen base contact) base.host_groups;
@@ -112,6 +115,10 @@ sees_host view id = sees_host_at view id.0
 
 abbrev pub sees_service : View → ServiceId → Bool
 sees_service view id = sees_service_at view id.0
+
+abbrev pub sees_object : View → Object → Bool
+sees_object view (object.Host id) = sees_host view id
+sees_object view (object.Service id) = sees_service view id
 
 abbrev pub sees_host_group : View → HostGroupId → Bool
 sees_host_group view.All id = true

@@ -64,6 +64,7 @@ impl<'a> Viewer<'a> {
         let host_groups = self.host_groups(alloc, &hosts)?;
         let service_groups = self.service_groups(alloc, &services)?;
         Ok(Seen {
+            known: self.contact.is_some(),
             hosts: Items::from_vec(hosts),
             services: Items::from_vec(services),
             host_groups: Items::from_vec(host_groups),

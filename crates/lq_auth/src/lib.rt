@@ -5,4 +5,4 @@ mod contacts;
 mod marks;
 mod view;
 
-pub use view::{Seen, View};
+pub use view::{Guarded, Seen, View};

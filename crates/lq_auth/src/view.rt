@@ -1,15 +1,20 @@
-ghost use Rattle.std.specs.Prelude.{◌≡◌, IfOk, IsOk, None, Some};
+ghost use Rattle.std.specs.Prelude.{◌≡◌, Bool, IfOk, IsOk, None, Some, filter};
 ghost use Rattle.std.specs.Option.{option_copied};
-ghost use Rattle.lq_auth.specs.Rights.{sees_host, sees_host_group, sees_service, sees_service_at, sees_service_group, view_of};
+ghost use Rattle.lq_auth.specs.declared.view.View.{View};
+ghost use Rattle.lq_auth.specs.Lines.{is_open, sees_line};
+ghost use Rattle.lq_auth.specs.Rights.{sees_host, sees_host_group, sees_object, sees_service, sees_service_at, sees_service_group, view_of};
 
 use crate::contacts::Viewer;
 use crate::marks::is_marked;
-use lq_records::{Base, HostGroupId, HostId, Items, Memory, ServiceGroupId, ServiceId};
+use lq_events::{Kind, LogEntry};
+use lq_records::{Base, HostGroupId, HostId, Items, Memory, Object, ServiceGroupId, ServiceId};
 use std::alloc::Global;
 
 /// What a contact sees of a base. Each list has one mark an object, in the base's order.
 #[derive(Drop)]
 pub struct Seen {
+    /// Whether the base has the contact. One whom it doesn't know sees nothing.
+    pub known: bool,
     /// For each host, whether it is seen.
     pub hosts: Items<bool>,
     /// For each service, whether it is seen.
@@ -28,6 +33,31 @@ pub enum View {
     All,
     /// What its user sees.
     Only(Seen),
+}
+
+/// The id of an object that not every contact sees.
+pub trait Guarded: Copy {
+    ghost is_seen: { View → Self → Bool };
+
+    /// Whether a query sees the object.
+    fn is_seen(self, view: &View) -> bool
+        ensures { result ≡ is_seen view.now self };
+}
+
+impl Guarded for HostId {
+    ghost is_seen = { sees_host };
+
+    fn is_seen(self, view: &View) -> bool {
+        view.sees_host(self)
+    }
+}
+
+impl Guarded for ServiceId {
+    ghost is_seen = { sees_service };
+
+    fn is_seen(self, view: &View) -> bool {
+        view.sees_service(self)
+    }
 }
 
 impl View {
@@ -50,6 +80,16 @@ impl View {
         let contact = base.contacts.find(user);
         let viewer = Viewer::new(alloc, base, contact)?;
         Ok(View::Only(viewer.seen(alloc)?))
+    }
+
+    /// Those of some objects that are seen, in their order. The only error is out of memory.
+    pub fn seen_of<I: Guarded>(&self, alloc: Global, ids: &[I]) -> Result<Vec<I>, Memory>
+        ensures { IfOk result (λ seen. seen.items ≡ filter (I.is_seen self.now) ids.now) }
+    {
+        ids.iter()
+            .copied()
+            .filter(|id| id.is_seen(self))
+            .collect(alloc)
     }
 
     /// Whether the host is seen.
@@ -82,6 +122,31 @@ impl View {
         }
     }
 
+    /// Whether the host or the service is seen.
+    #[inline]
+    pub fn sees_object(&self, object: Object) -> bool
+        ensures { result ≡ sees_object self.now object }
+    {
+        match object {
+            Object::Host(id) => self.sees_host(id),
+            Object::Service(id) => self.sees_service(id),
+        }
+    }
+
+    /// Whether a line of the log is seen, by the object that it is about (`lq_log::object_of`). A
+    /// line about an object is seen where the object is. Another line is seen by each contact whom
+    /// the base knows where its class is 0 or 2, or it tells that a time period goes over.
+    #[inline]
+    pub fn sees_line(&self, about: Option<Object>, e: &LogEntry) -> bool
+        ensures { result ≡ sees_line self.now about e.now }
+    {
+        match (self, about) {
+            (View::All, _) => true,
+            (View::Only(_), Some(object)) => self.sees_object(object),
+            (View::Only(seen), None) => seen.known && is_open(e),
+        }
+    }
+
     /// Whether the group of hosts is seen.
     #[inline]
     pub fn sees_host_group(&self, id: HostGroupId) -> bool
@@ -103,4 +168,11 @@ impl View {
             View::Only(seen) => is_marked(seen.service_groups.as_slice(), id.0 as usize),
         }
     }
+}
+
+/// Whether a line that is about no object is seen by each contact.
+fn is_open(entry: &LogEntry) -> bool
+    ensures { result ≡ is_open entry.now }
+{
+    entry.class == 0 || entry.class == 2 || matches!(entry.kind, Kind::TimeperiodTransition { .. })
 }

@@ -146,8 +146,8 @@ impl<'a> HostRow<'a> {
 }
 
 /// The value of a column of the host with an id, of other objects as far as a query sees them.
-/// Where there is no such host, or the column isn't one of hosts, it is 0, an empty text or an empty
-/// list. The only error is out of memory; numbers and single texts take none.
+/// Where there is no such host, or the column isn't one of hosts, it is 0, an empty text or an
+/// empty list. The only error is out of memory; numbers and single texts take none.
 pub fn host_value<'a>(
     alloc: Global,
     live: &'a Live,

@@ -22,7 +22,7 @@ pub use contacts::contact_named;
 pub use counters::{hosts_value, services_value};
 pub use empty::{empty_number, empty_text, empty_value};
 pub use host::{HostRow, host_value};
-pub use names::{Named, names_of, seen_hosts};
+pub use names::{Named, names_of};
 pub use scope::Scope;
 pub use service::{ServiceRow, service_value};
 pub use status::status_number;

@@ -1,5 +1,4 @@
-ghost use Rattle.std.specs.Prelude.{◌≡◌, ◌++◌, ◌<◌, ◌^◌, ℕ, IfOk, List, OnOk, Option, filter, filter_map, length, map, option_to_list};
-ghost use Rattle.lq_auth.specs.Rights.{sees_host};
+ghost use Rattle.std.specs.Prelude.{◌≡◌, ◌++◌, ◌<◌, ◌^◌, ℕ, IfOk, List, OnOk, Option, filter_map, length, map, option_to_list};
 ghost use Rattle.lq_records.specs.declared.base.Base.{Base};
 ghost use Rattle.std.specs.Option.{option_copied};
 ghost use Rattle.lq_columns.specs.Names.{child_names_of, description_of, descriptions_of, group_names_of, has_host, has_service, has_text, is_child_of, is_named, name_of_contact, name_of_contact_group, name_of_host, name_with_host, name_with_service, parent_names_of, seen_children, seen_services, variable_names_of, variable_values_of, without_underscore};
@@ -220,19 +219,8 @@ pub(crate) fn parent_names(
 ) -> Result<Items<Text>, Memory>
     ensures { IfOk result (λ names. names ≡ parent_names_of base.now view.now host.now) }
 {
-    let parents = seen_hosts(alloc, view, host.parents.as_slice())?;
+    let parents = view.seen_of(alloc, host.parents.as_slice())?;
     names_of(alloc, base, &parents)
-}
-
-/// Those of some hosts that are seen.
-pub fn seen_hosts(alloc: Global, view: &View, hosts: &[HostId]) -> Result<Vec<HostId>, Memory>
-    ensures { IfOk result (λ seen. seen.items ≡ filter (sees_host view.now) hosts.now) }
-{
-    hosts
-        .iter()
-        .copied()
-        .filter(|host| view.sees_host(*host))
-        .collect(alloc)
 }
 
 /// The descriptions of the services of a host, as far as they are seen.

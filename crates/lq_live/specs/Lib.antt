@@ -8,5 +8,6 @@ pub mod Always
 pub mod Kept
 pub mod Edits
 pub mod StepEdits
+pub mod Opening
 pub mod Order
 pub mod Depths

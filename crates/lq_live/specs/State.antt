@@ -1,4 +1,4 @@
--- The state of the monitored objects, and the one that a base opens with.
+-- The state of the monitored objects, and the one in which each object is pending.
 use Rattle.std.specs.Prelude.{ℕ, pos, Bool, true, Option, List, [], map}
 use Rattle.std.specs.List.{slice_get, slice_set}
 use Rattle.std.specs.Option.{option_map, option_map_or, option_and_then}
@@ -30,7 +30,7 @@ pub record Counted : Type 0 where
   pub state : State
   pub count : ℕ
 
--- ---- the opening state
+-- ---- before anything is known
 
 -- the status of an object that was never checked
 abbrev pub pending : ℕ → Status
@@ -50,9 +50,9 @@ pending notifications = record {
   notifications_enabled = notifications;
 }
 
--- the state that a base opens with where the log has no entry
-abbrev pub opened : Base → State
-opened base = record {
+-- each object pending, without a log
+abbrev pub all_pending : Base → State
+all_pending base = record {
   base = base;
   host_status = map (λ host. pending host.fields.notifications_enabled) base.hosts;
   service_status = map (λ service. pending service.fields.notifications_enabled) base.services;

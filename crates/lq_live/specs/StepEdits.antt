@@ -21,7 +21,7 @@ use Rattle.lq_live.specs.Step.{second_after}
 use Rattle.lq_live.specs.Edits.{line_edits}
 use Rattle.lq_live.specs.Order.{due_lines}
 use Rattle.lq_live.specs.Kept.{at_second, state_at}
-use Rattle.lq_live.specs.declared.check_result.CheckAttempt.{CheckAttempt}
+use Rattle.lq_live.specs.declared.outcome.CheckAttempt.{CheckAttempt}
 use Rattle.lq_live.specs.declared.downtime_effects.DowntimeRequest.{DowntimeRequest}
 use Rattle.lq_live.specs.declared.live_state.LiveState.{LiveState}
 use Rattle.lq_live.specs.declared.edit.Edit.{Edit}

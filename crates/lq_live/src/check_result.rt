@@ -1,10 +1,10 @@
 ghost use Rattle.std.specs.Prelude.{◌≡◌, ◌≤◌, ◌++◌, ◌&&◌, pos, true, if◌then◌else◌, IfOk, OnOk};
 ghost use Rattle.std.specs.Arc.{arc_value};
-ghost use Rattle.std.specs.List.{before_first, after_first, slice_get};
+ghost use Rattle.std.specs.List.{before_first};
 ghost use Rattle.lq_live.specs.Downtimes.{only_if};
 ghost use Rattle.lq_live.specs.Effects.{alert_line};
 ghost use Rattle.lq_live.specs.Kept.{state_at};
-ghost use Rattle.lq_live.specs.Results.{check_attempt, differs, ends_acknowledgement, hard_at, is_bar, is_first_or_new, is_ok, most_attempts, most_code, service_attempt, status_after, type_number};
+ghost use Rattle.lq_live.specs.Results.{check_attempt, differs, ends_acknowledgement, hard_at, most_attempts, most_code, service_attempt};
 ghost use Rattle.lq_live.specs.State.{line_names, names_of, object_status};
 ghost use Rattle.lq_live.specs.StepEdits.{Adds, attempt_of, check_edits, effect_in, is_of_checks, known_edits, result_edits};
 ghost use Rattle.lq_live.specs.declared.edit.Edit.TheVariants as edit;
@@ -12,16 +12,10 @@ ghost use Rattle.lq_live.specs.declared.edit.Edit.TheVariants as edit;
 use crate::context::StepContext;
 use crate::edit::Edit;
 use crate::names::ObjectName;
+use crate::outcome::{CheckAttempt, Outcome, before_bar, ends_acknowledgement, type_number};
 use lq_events::{Act, LogEntry, Status};
 use lq_log::{Form, make_line};
 use lq_records::{Base, Memory, Object, ServiceId, Text};
-
-/// Whether a state is hard, and the number of the check attempt that found it.
-#[derive(Clone, Copy)]
-pub(crate) struct CheckAttempt {
-    pub(crate) hard: bool,
-    pub(crate) number: u32,
-}
 
 /// A check result as a command gives it.
 #[derive(Clone, Copy)]
@@ -39,6 +33,23 @@ struct CheckResult<'a> {
     state: i64,
     attempt: CheckAttempt,
     output: &'a str,
+}
+
+impl<'a> CheckResult<'a> {
+    /// What is recorded of it at a second.
+    fn outcome(self, second: u64) -> Outcome<'a>
+        ensures second { result.second ≡ second }
+        ensures attempt { attempt_of result.attempt ≡ attempt_of self.entry.attempt }
+        ensures state { result.state ≡ self.entry.state }
+        ensures output { result.output.now ≡ self.entry.output.now }
+    {
+        Outcome {
+            second,
+            attempt: self.attempt,
+            state: self.state,
+            output: self.output,
+        }
+    }
 }
 
 impl<'a> StepContext<'a> {
@@ -110,6 +121,7 @@ impl<'a> StepContext<'a> {
         self.push_known(edits, result, old)
     }
 
+    /// Adds the edits of a result, by the status before it.
     #[tactic(auto, using(std::proofs::Common::append_assoc))]
     fn push_known(
         self,
@@ -124,7 +136,7 @@ impl<'a> StepContext<'a> {
     {
         self.push_alert(edits, check, old)?;
         push_end(edits, check, old)?;
-        let status = self.status_after(check, old)?;
+        let status = check.outcome(self.second).status_after(self.alloc, old)?;
         edits.push(Edit::SetStatus(check.object, status))?;
         Ok(())
     }
@@ -165,93 +177,6 @@ impl<'a> StepContext<'a> {
         };
         make_line(self.alloc, self.second, &form)
     }
-
-    /// The status after a result.
-    #[tactic(auto, unfolding(crate::specs::Results::status_after))]
-    fn status_after(self, check: CheckResult<'_>, old: &Status) -> Result<Status, Memory>
-        ensures { IfOk result (λ status. status ≡ status_after self.entry.second
-            (attempt_of check.entry.attempt) check.entry.state check.entry.output.now old.now) }
-    {
-        let ok = is_ok(check.state);
-        let ends = ends_acknowledgement(check.state, old);
-        let changed = changes_state(check.state, old);
-        let hard_changed = changes_hard(check.attempt, check.state, old);
-        let numbers = StatusNumbers {
-            state_type: flag_if(ok, 1, type_number(check.attempt.hard)),
-            current_attempt: attempt_if(ok, 1, check.attempt.number),
-            last_check: self.second,
-            last_state_change: second_if(changed, self.second, old.last_state_change),
-            last_hard_state_change: second_if(
-                hard_changed,
-                self.second,
-                old.last_hard_state_change,
-            ),
-            acknowledged: flag_if(ends, 0, old.acknowledged),
-            acknowledgement_type: flag_if(ends, 0, old.acknowledgement_type),
-        };
-        let status = self.status_with(check, old, numbers)?;
-        Ok(status)
-    }
-
-    /// The status of a checked object, by its numbers.
-    fn status_with(
-        self,
-        check: CheckResult<'_>,
-        old: &Status,
-        numbers: StatusNumbers,
-    ) -> Result<Status, Memory>
-        ensures { IfOk result (λ status. status ≡ record {
-          state = check.entry.state;
-          state_type = numbers.state_type;
-          has_been_checked = 1;
-          current_attempt = numbers.current_attempt;
-          last_check = numbers.last_check;
-          last_state_change = numbers.last_state_change;
-          last_hard_state_change = numbers.last_hard_state_change;
-          last_hard_state =
-              if check.entry.attempt.hard then check.entry.state else old.now.last_hard_state;
-          plugin_output = before_first is_bar check.entry.output.now;
-          perf_data = after_first is_bar check.entry.output.now;
-          acknowledged = numbers.acknowledged;
-          acknowledgement_type = numbers.acknowledgement_type;
-          notifications_enabled = old.now.notifications_enabled;
-        }) }
-    {
-        let plugin_output = Text::new(self.alloc, before_bar(check.output))?;
-        let perf_data = Text::new(self.alloc, after_bar(check.output))?;
-        let last_hard_state = if check.attempt.hard {
-            check.state
-        } else {
-            old.last_hard_state
-        };
-        Ok(Status {
-            state: check.state,
-            state_type: numbers.state_type,
-            has_been_checked: 1,
-            current_attempt: numbers.current_attempt,
-            last_check: numbers.last_check,
-            last_state_change: numbers.last_state_change,
-            last_hard_state_change: numbers.last_hard_state_change,
-            last_hard_state,
-            plugin_output,
-            perf_data,
-            acknowledged: numbers.acknowledged,
-            acknowledgement_type: numbers.acknowledgement_type,
-            notifications_enabled: old.notifications_enabled,
-        })
-    }
-}
-
-/// The numbers without a sign that a result changes in a status.
-#[derive(Clone, Copy)]
-struct StatusNumbers {
-    state_type: u8,
-    current_attempt: u32,
-    last_check: u64,
-    last_state_change: u64,
-    last_hard_state_change: u64,
-    acknowledged: u8,
-    acknowledgement_type: u8,
 }
 
 /// The end of the acknowledgement, where it ends.
@@ -265,32 +190,6 @@ fn push_end(edits: &mut Vec<Edit>, check: CheckResult<'_>, old: &Status) -> Resu
     }
     edits.push(Edit::EndAcknowledgement(check.object))?;
     Ok(())
-}
-
-/// What stands before the first `|`.
-fn before_bar(output: &str) -> &str
-    ensures { result.now ≡ before_first is_bar output.now }
-{
-    match output.split_once('|') {
-        Some((front, _)) => front,
-        None => output,
-    }
-}
-
-/// What stands after the first `|`.
-fn after_bar(output: &str) -> &str
-    ensures { result.now ≡ after_first is_bar output.now }
-{
-    match output.split_once('|') {
-        Some((_, rest)) => rest,
-        None => "",
-    }
-}
-
-fn is_ok(state: i64) -> bool
-    ensures { result ≡ is_ok state }
-{
-    state == 0
 }
 
 fn hard_at(number: u32) -> CheckAttempt
@@ -339,57 +238,12 @@ fn service_attempt(most: u32, new: i64, old: &Status) -> CheckAttempt
     hard_at(old.current_attempt)
 }
 
-fn type_number(hard: bool) -> u8
-    ensures { result ≡ type_number hard }
-{
-    u8::from(hard)
-}
-
 fn differs(attempt: CheckAttempt, new: i64, old: &Status) -> bool
     ensures { result ≡ differs (attempt_of attempt) new old.now }
 {
     !(new == old.state
         && type_number(attempt.hard) == old.state_type
         && attempt.number == old.current_attempt)
-}
-
-fn ends_acknowledgement(new: i64, old: &Status) -> bool
-    ensures { result ≡ ends_acknowledgement new old.now }
-{
-    old.acknowledged != 0 && (new == 0 || (old.acknowledgement_type == 1 && new != old.state))
-}
-
-/// Whether the state becomes another.
-fn changes_state(new: i64, old: &Status) -> bool
-    ensures { result ≡ is_first_or_new new old.now.state old.now }
-{
-    old.has_been_checked == 0 || new != old.state
-}
-
-/// Whether the last hard state becomes another.
-fn changes_hard(attempt: CheckAttempt, new: i64, old: &Status) -> bool
-    ensures { result ≡ (attempt.hard && is_first_or_new new old.now.last_hard_state old.now) }
-{
-    attempt.hard && (old.has_been_checked == 0 || new != old.last_hard_state)
-}
-
-/// One of two seconds.
-fn second_if(first: bool, a: u64, b: u64) -> u64
-    ensures { result ≡ if first then a else b }
-{
-    if first { a } else { b }
-}
-
-fn flag_if(first: bool, a: u8, b: u8) -> u8
-    ensures { result ≡ if first then a else b }
-{
-    if first { a } else { b }
-}
-
-fn attempt_if(first: bool, a: u32, b: u32) -> u32
-    ensures { result ≡ if first then a else b }
-{
-    if first { a } else { b }
 }
 
 fn most_attempts(base: &Base, id: ServiceId) -> u32

@@ -40,9 +40,6 @@ impl<'a> StepContext<'a> {
     pub(crate) fn status_of(self, object: Object) -> Option<&'a Status>
         ensures { option_copied result ≡ object_status (state_of self.entry.live.now) object }
     {
-        match object {
-            Object::Host(id) => self.live.host_status.get(id.0 as usize),
-            Object::Service(id) => self.live.service_status.get(id.0 as usize),
-        }
+        self.live.status_of(object)
     }
 }

@@ -15,6 +15,8 @@ mod event;
 mod live;
 mod live_state;
 mod names;
+mod opening;
+mod outcome;
 mod step;
 
 pub use live::Live;

@@ -1,9 +1,10 @@
-ghost use Rattle.std.specs.Prelude.{All, ◌≡◌, [], Some, ◌+◌, ◌<◌, ◌≤◌, IfOk, OnOk, OnErr, length, map};
+ghost use Rattle.std.specs.Prelude.{All, ◌≡◌, [], Some, ◌+◌, ◌<◌, ◌≤◌, IfOk, OnOk, OnErr, length};
 ghost use Rattle.std.specs.List.{slice_get};
 ghost use Rattle.std.specs.Option.{option_copied};
 ghost use Rattle.lq_live.specs.Ids.{IdsRise, comment_id, downtime_id};
 ghost use Rattle.lq_live.specs.Kept.{IsIndexed, state_of};
-ghost use Rattle.lq_live.specs.State.{Counted, opened, pending};
+ghost use Rattle.lq_live.specs.Opening.{opened};
+ghost use Rattle.lq_live.specs.State.{Counted};
 ghost use Rattle.lq_log.specs.Book.{last_time};
 ghost use Rattle.lq_records.specs.Sound.{IsSound};
 ghost use Rattle.lq_live.specs.Always.{IsCurrent, IsFront};
@@ -15,10 +16,9 @@ use crate::live_state::LiveState;
 use crate::step::step_edits;
 use lq_events::{Comment, Downtime, Status, Update};
 use lq_log::LogBook;
-use lq_records::{Base, Host, HostId, Memory, Service, ServiceId, Text};
+use lq_records::{Base, HostId, Memory, ServiceId};
 use std::alloc::Global;
 use std::marker::Model;
-use std::sync::Arc;
 
 /// The state of the objects of a base, and how many updates led to it. Seconds are counted from
 /// the beginning of 1970.
@@ -41,31 +41,22 @@ impl Model for Live {
 }
 
 impl Live {
-    /// The opening state of a sound base: each object is pending, there are no downtimes and
-    /// comments, people are notified, and the present second is 0. The only error is out of memory.
+    /// The opening state of a sound base and its log. Each object is pending, and then each line of
+    /// the log that tells a state of an object is recorded with its second. There are no downtimes
+    /// and comments, people are notified, and the present second is that of the last line, 0 without
+    /// one. The only error is out of memory.
     pub fn open(alloc: Global, base: Base, log: LogBook) -> Result<Self, Memory>
-        requires empty { log.entries ≡ [] }
-        requires sound { IsSound base }
-        ensures { IfOk result (λ live. live ≡ record { state = opened base; count = 0 }) }
+        requires { IsSound base }
+        ensures { IfOk result
+            (λ live. live ≡ record { state = opened base log.entries; count = 0 }) }
     {
-        let host_status = pending_hosts(alloc, base.hosts.as_slice())?;
-        let service_status = pending_services(alloc, base.services.as_slice())?;
-        let base = Arc::new(alloc, base)?;
+        let mut state = LiveState::pending(alloc, base)?;
+        state.record_lines(alloc, log.entries())?;
+        state.present = log.last_time();
+        state.log = log;
         Ok(Live {
             alloc,
-            state: LiveState {
-                base,
-                host_status,
-                service_status,
-                downtimes: Vec::new(alloc),
-                comments: Vec::new(alloc),
-                log,
-                present: 0,
-                next_downtime: 1,
-                next_comment: 1,
-                notifications: true,
-                next_moment: u64::MAX,
-            },
+            state,
             count: 0,
         })
     }
@@ -189,47 +180,4 @@ impl Live {
     {
         &self.state.comments
     }
-}
-
-/// The status of an object that was never checked.
-fn pending(notifications: u8) -> Status
-    ensures { result ≡ pending notifications }
-{
-    Status {
-        state: 0,
-        state_type: 1,
-        has_been_checked: 0,
-        current_attempt: 1,
-        last_check: 0,
-        last_state_change: 0,
-        last_hard_state_change: 0,
-        last_hard_state: 0,
-        plugin_output: Text::empty(),
-        perf_data: Text::empty(),
-        acknowledged: 0,
-        acknowledgement_type: 0,
-        notifications_enabled: notifications,
-    }
-}
-
-fn pending_hosts(alloc: Global, hosts: &[Host]) -> Result<Vec<Status>, Memory>
-    ensures { IfOk result (λ list. list.items
-        ≡ map (λ host. pending host.fields.notifications_enabled) hosts.now) }
-{
-    let mut list = Vec::with_capacity(alloc, hosts.len())?;
-    for host in hosts {
-        list.push(pending(host.fields.notifications_enabled))?;
-    }
-    Ok(list)
-}
-
-fn pending_services(alloc: Global, services: &[Service]) -> Result<Vec<Status>, Memory>
-    ensures { IfOk result (λ list. list.items
-        ≡ map (λ service. pending service.fields.notifications_enabled) services.now) }
-{
-    let mut list = Vec::with_capacity(alloc, services.len())?;
-    for service in services {
-        list.push(pending(service.fields.notifications_enabled))?;
-    }
-    Ok(list)
 }

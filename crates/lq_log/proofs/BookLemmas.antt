@@ -40,3 +40,10 @@ no_last_time (first ∷ entries) none = grind (arith, common_steps, none, slice_
 
 pub longer_of_lines : (entries longer : List LogEntry) (entry : LogEntry) → longer ≡ entries ++ entry ∷ [] → All IsOfLine entries → IsOfLine entry → All IsOfLine longer
 longer_of_lines entries longer entry is all of_line = rw is (All-push IsOfLine entries entry all of_line)
+
+below_after : (before : ℕ) (entries : List LogEntry) → before < time_limit → InOrderAfter before entries → time_after before entries < time_limit
+below_after before [] below order = below
+below_after before (first ∷ entries) below order = below_after first.time entries order.1 order.2
+
+pub last_time_below : (entries : List LogEntry) → InOrder entries → last_time entries < time_limit
+last_time_below entries order = below_after 0 entries (omega arith) order

@@ -1,5 +1,6 @@
 pub mod BookLemmas
 pub mod LineLemmas
+pub mod LogLemmas
 pub mod NumberLemmas
 pub mod ReadLemmas
 pub mod SeparatorLemmas

@@ -1,5 +1,5 @@
 -- An entry that a line gives is one that its own message gives.
-use Rattle.std.proofs.Common.{◌≡◌, ◌<◌, ℕ, max, Bool, true, false, Option, Some, None, List, refl, subst, sym, ap, arith, unwrap_or, true≢false}
+use Rattle.std.proofs.Common.{◌≡◌, ◌<◌, ℕ, max, Bool, true, false, Option, Some, None, List, refl, subst, ap, arith, unwrap_or, true≢false}
 use Rattle.lq_text.specs.Seconds.{second_of, text_after_second}
 use Rattle.lq_events.specs.declared.log_entry.LogEntry.{LogEntry}
 use Rattle.lq_log.specs.Book.{time_limit}

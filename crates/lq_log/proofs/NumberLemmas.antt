@@ -1,5 +1,5 @@
 -- Numbers in a line's fields.
-use Rattle.std.proofs.Common.{Fits, w32, ℕ, ◌+◌, ◌-◌, ◌*◌, ◌^◌, ◌<◌, ◌≤◌, ◌≡◌, ◌&&◌, Bool, true, false, Option, Some, None, List, [], ◌∷◌, length, fold, refl, ap, arith, nat_lt, nat_le, All, if◌then◌else◌}
+use Rattle.std.proofs.Common.{Fits, w32, ℕ, ◌+◌, ◌-◌, ◌*◌, ◌^◌, ◌<◌, ◌≤◌, ◌≡◌, ◌&&◌, Bool, true, false, Some, None, List, [], ◌∷◌, length, fold, refl, ap, arith, nat_lt, nat_le, All, if◌then◌else◌}
 use Rattle.std.proofs.lemmas.Bool.Decides.{nat_tests}
 use Rattle.std.proofs.lemmas.Bool.{le-leb, lt-ltb}
 use Rattle.std.specs.List.{AllByRecursion, list_all}

@@ -1,11 +1,10 @@
 -- What a text says, by its form and its fields.
-use Rattle.std.proofs.Common.{◌≡◌, ℕ, ◌==◌, true, false, Some, None, List, [], ◌∷◌, length, refl, sym, ap, ◌∙◌, unwrap_or}
+use Rattle.std.proofs.Common.{◌≡◌, ℕ, ◌==◌, false, Some, None, List, [], ◌∷◌, length, refl, ap, ◌∙◌, unwrap_or}
 use Rattle.std.proofs.lemmas.Bool.{true≢false}
-use Rattle.std.specs.List.{before_first, after_first}
 use Rattle.std.specs.Option.{option_and_then}
 use Rattle.lq_events.specs.declared.log_entry.LogEntry.{LogEntry}
 use Rattle.lq_log.specs.Entries.{formed, other, parted, said}
-use Rattle.lq_log.specs.Fields.{has_separator, is_separator, with_field, with_fields}
+use Rattle.lq_log.specs.Fields.{has_separator, with_fields}
 use Rattle.lq_log.specs.declared.field.Field.{Field}
 
 pub said_by_form : (text : List ℕ) (entry : LogEntry) → Some entry ≡ option_and_then formed (parted text) → entry ≡ said text
@@ -20,10 +19,3 @@ pub field_missing : (fields later : List Field) (field : Field) (text : List ℕ
     → has_separator text ≡ false → None ≡ with_fields fields text entry
 field_missing fields [] field text entry is more lacks = absurd (true≢false more)
 field_missing fields (next ∷ later) field text entry is more lacks = rw (is, lacks) refl
-
-pub field_taken : (fields later : List Field) (field : Field) (text front rest : List ℕ) (entry longer : LogEntry) → fields ≡ field ∷ later → (length later == 0) ≡ false
-    → has_separator text ≡ true → front ≡ before_first is_separator text → rest ≡ after_first is_separator text
-    → Some longer ≡ with_field entry field front → with_fields later rest longer ≡ with_fields fields text entry
-field_taken fields [] field text front rest entry longer is more has front_is rest_is taken = absurd (true≢false more)
-field_taken fields (next ∷ later) field text front rest entry longer is more has front_is rest_is taken =
-    rw (is, has, sym front_is, sym rest_is) (ap (option_and_then (with_fields (next ∷ later) rest)) taken)

@@ -2,10 +2,12 @@
 use Rattle.std.specs.Prelude.{ℕ, ◌<◌, ◌≤◌, ⊤, List, [], ◌∷◌}
 use Rattle.lq_events.specs.declared.log_entry.LogEntry.{LogEntry}
 
--- the entries of a book, and how many more it has room for
+-- the entries of a book, how many more it has room for, and how many lines of the log that was read
+-- have no entry
 pub record Book : Type 0 where
   pub entries : List LogEntry
   pub room : ℕ
+  pub skipped : ℕ
 
 -- A second in brackets has at most 12 digits, so each that is written lies below this number.
 abbrev pub time_limit : ℕ

@@ -1,11 +1,15 @@
-ghost use Rattle.std.specs.Prelude.{All, ◌≡◌, ◌<◌, ◌≤◌, ◌^◌, ◌+◌, ◌++◌, ◌∷◌, ◌==◌, [], IfOk, IsOk, OnErr, OnOk, length};
+ghost use Rattle.std.specs.Prelude.{All, ◌≡◌, ◌<◌, ◌≤◌, ◌^◌, ◌+◌, ◌++◌, ◌∷◌, ◌==◌, [], IfOk, IsOk, OnErr, OnOk, Some, length, ◌-◌};
+ghost use Rattle.std.specs.List.{slice_get};
+ghost use Rattle.std.specs.Option.{option_map};
 ghost use Rattle.lq_log.specs.Book.{InOrder, last_time, time_limit};
 ghost use Rattle.lq_log.specs.Entries.{IsOfLine};
 
 use lq_events::LogEntry;
 use lq_records::Memory;
+use lq_steps::Steps;
 use std::alloc::{AllocError, Global};
 use std::marker::Model;
+use std::sync::ledger::Ledger;
 
 /// Each entry's second is below it: a second in brackets has at most 12 digits, and this number has
 /// 13, so that a line with it would not be read again.
@@ -18,6 +22,8 @@ const MOST_ENTRIES: usize = 1 << 40;
 #[derive(Drop)]
 pub struct LogBook {
     entries: Vec<LogEntry>,
+    /// How many lines of the log that was read have no entry.
+    skipped: u64,
 }
 
 impl Model for LogBook {
@@ -31,6 +37,7 @@ impl Model for LogBook {
     ghost view = { λ book. record {
       entries = book.entries.items;
       room = min (vec_capacity book.entries) (2 ^ 40) - vec_len book.entries;
+      skipped = book.skipped;
     } };
 
     ghost invariant = { λ book. (vec_len book.entries ≤ 2 ^ 40) × InOrder book.entries.items
@@ -40,10 +47,12 @@ impl Model for LogBook {
 impl LogBook {
     /// A book without entries. It takes no memory.
     pub fn empty(alloc: Global) -> Self
-        ensures { result.entries ≡ [] }
+        ensures entries { result.entries ≡ [] }
+        ensures skipped { result.skipped ≡ 0 }
     {
         LogBook {
             entries: Vec::new(alloc),
+            skipped: 0,
         }
     }
 
@@ -55,6 +64,7 @@ impl LogBook {
         ensures limit { OnOk result (length self.new.entries + n ≤ 2 ^ 40) }
         ensures room { n ≤ self.old.room → IsOk result }
         ensures grows { self.old.room ≤ self.new.room }
+        ensures skipped { self.new.skipped ≡ self.old.skipped }
         ensures err { OnErr result (self.new ≡ self.old) }
     {
         if n > MOST_ENTRIES - self.entries.len() {
@@ -66,13 +76,17 @@ impl LogBook {
     /// A book with the same entries, which shares their texts with this one. The only error is
     /// running out of memory.
     pub fn copy(&self, alloc: Global) -> Result<Self, Memory>
-        ensures { IfOk result (λ copy. copy.entries ≡ self.now.entries) }
+        ensures entries { IfOk result (λ copy. copy.entries ≡ self.now.entries) }
+        ensures skipped { IfOk result (λ copy. copy.skipped ≡ self.now.skipped) }
     {
         let mut entries = Vec::with_capacity(alloc, self.entries.len())?;
         for entry in &self.entries {
             entries.push(copy_of(entry)?)?;
         }
-        Ok(LogBook { entries })
+        Ok(LogBook {
+            entries,
+            skipped: self.skipped,
+        })
     }
 
     /// Adds an entry at the end, which a line gives and which is no earlier than the last one. The
@@ -88,6 +102,7 @@ impl LogBook {
         ensures err { OnErr result (self.new.entries ≡ self.old.entries) }
         ensures room { 0 < self.old.room → IsOk result }
         ensures uses { self.old.room ≤ self.new.room + 1 }
+        ensures skipped { self.new.skipped ≡ self.old.skipped }
     {
         self.reserve(1)?;
         self.entries.push_reserved(entry);
@@ -112,10 +127,49 @@ impl LogBook {
         self.entries.len()
     }
 
-    /// The second of the last entry, counted from the beginning of 1970; 0 without an entry.
-    #[tactic(auto, using(crate::proofs::BookLemmas::last_time_is, crate::proofs::BookLemmas::no_last_time))]
+    /// How many lines of the log that was read have no entry, empty ones included: those that don't
+    /// begin with a second in brackets. 0 for a book that was made empty.
+    pub fn skipped(&self) -> u64
+        ensures { result ≡ self.now.skipped }
+    {
+        self.skipped
+    }
+
+    /// Counts a line without an entry.
+    pub(crate) fn skip(&mut self)
+        requires { self.old.skipped < 2 ^ 64 - 1 }
+        ensures entries { self.new.entries ≡ self.old.entries }
+        ensures skipped { self.new.skipped ≡ self.old.skipped + 1 }
+    {
+        self.skipped += 1;
+    }
+
+    /// The entry at a place, from 0 on. It is one step.
+    pub fn line<G: Ledger>(&self, i: usize, steps: &mut Steps<G>) -> &LogEntry
+        requires { i < length self.now.entries }
+        ensures entry { slice_get self.now.entries i ≡ Some result.now }
+        ensures cost { steps.new ≡ steps.old + 1 }
+    {
+        steps.tick();
+        &self.entries[i]
+    }
+
+    /// The second of the entry at a place, counted from the beginning of 1970. It is one step.
+    pub fn time_at<G: Ledger>(&self, i: usize, steps: &mut Steps<G>) -> u64
+        requires { i < length self.now.entries }
+        ensures time { option_map (λ entry. entry.time) (slice_get self.now.entries i)
+            ≡ Some result }
+        ensures cost { steps.new ≡ steps.old + 1 }
+    {
+        self.line(i, steps).time
+    }
+
+    /// The second of the last entry, counted from the beginning of 1970; 0 without an entry. It is
+    /// below `TIME_LIMIT`.
+    #[tactic(auto, using(crate::proofs::BookLemmas::last_time_is, crate::proofs::BookLemmas::no_last_time, crate::proofs::BookLemmas::last_time_below))]
     pub fn last_time(&self) -> u64
-        ensures { result ≡ last_time self.now.entries }
+        ensures value { result ≡ last_time self.now.entries }
+        ensures below { result < time_limit }
     {
         match self.entries.last() {
             Some(last) => last.time,

@@ -9,9 +9,13 @@ mod fill;
 mod form;
 mod read;
 mod split;
+mod telling;
+mod whole;
 mod words;
 mod written;
 
 pub use book::{LogBook, TIME_LIMIT};
 pub use read::read_line;
+pub use telling::{Told, object_of, told_by};
+pub use whole::LogErr;
 pub use written::{DowntimeChange, Form, make_line};

@@ -5,7 +5,7 @@ ghost use Rattle.lq_log.specs.Entries.{IsOfLine, blank, entry_of, formed, other,
 ghost use Rattle.lq_log.specs.Book.{time_limit};
 
 use crate::class;
-use crate::fill::with_fields;
+use crate::fill::fill_all;
 use crate::form::LineForm;
 use crate::split::{parted, second_and_text};
 use lq_events::{Kind, LogEntry};
@@ -23,12 +23,23 @@ pub fn read_line(alloc: Global, line: &str, before: u64) -> Result<Option<LogEnt
     ensures below { before < time_limit
         → IfOk result (λ read. IfSome read (λ entry. entry.time < time_limit)) }
 {
-    let Some((second, text)) = second_and_text(line) else {
+    entry_of(alloc, Text::new(alloc, line)?, before)
+}
+
+/// The entry of a line, which becomes its message.
+pub(crate) fn entry_of(alloc: Global, line: Text, before: u64) -> Result<Option<LogEntry>, Memory>
+    ensures read { IfOk result (λ entry. entry ≡ entry_of line before) }
+    ensures line { IfOk result (λ read. IfSome read IsOfLine) }
+    ensures order { IfOk result (λ read. IfSome read (λ entry. before ≤ entry.time)) }
+    ensures below { before < time_limit
+        → IfOk result (λ read. IfSome read (λ entry. entry.time < time_limit)) }
+{
+    let Some((second, text)) = second_and_text(line.as_str()) else {
         return Ok(None);
     };
     let mut entry = said(alloc, text)?;
     entry.time = second.max(before);
-    entry.message = Text::new(alloc, line)?;
+    entry.message = line;
     Ok(Some(entry))
 }
 
@@ -52,7 +63,13 @@ fn with_form(alloc: Global, text: &str) -> Result<Option<LogEntry>, Memory>
     let Some(form) = LineForm::named(name) else {
         return Ok(None);
     };
-    with_fields(alloc, form.fields(), rest, form.into_blank())
+    let fields = form.fields();
+    let mut entry = form.into_blank();
+    if fill_all(alloc, &mut entry, fields, rest)? {
+        Ok(Some(entry))
+    } else {
+        Ok(None)
+    }
 }
 
 /// The entry of a text without a form.

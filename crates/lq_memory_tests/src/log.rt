@@ -2,7 +2,7 @@
 
 use crate::scarce::{Call, assert_late, is_late, successes};
 use lq_events::LogEntry;
-use lq_log::{Form, LogBook, TIME_LIMIT, make_line, read_line};
+use lq_log::{Form, LogBook, LogErr, TIME_LIMIT, make_line, read_line};
 use lq_records::Text;
 use std::alloc::{AllocError, Global};
 use std::process::Abort;
@@ -73,6 +73,33 @@ fn a_line_wants_memory_for_its_texts(rt: HostRuntime) -> Result<(), Fail> {
     let output = output.as_str();
     let line = format!(in rt.alloc(); "[5] HOST ALERT: web1;DOWN;HARD;3;{output}")?;
     assert_line(&rt, line.as_str(), output)
+}
+
+/// A whole log is read, each of whose lines has an entry.
+#[derive(Clone, Copy)]
+struct Whole<'a> {
+    log: &'a [u8],
+    entries: usize,
+}
+
+impl Call for Whole<'_> {
+    fn make(&mut self, alloc: Global) -> Result<bool, AllocError> {
+        match LogBook::read(alloc, self.log) {
+            Ok(book) => Ok(book.len() == self.entries),
+            Err(LogErr::Memory(error)) => Err(error),
+            Err(LogErr::TooManyLines { .. } | LogErr::LineTooLong { .. }) => Ok(false),
+        }
+    }
+}
+
+#[test]
+fn a_log_wants_memory_for_its_entries(rt: HostRuntime) -> Result<(), Fail> {
+    let log = "[5] HOST ALERT: web1;DOWN;HARD;3;away\n".repeat(rt.alloc(), 500)?;
+    let mut call = Whole {
+        log: log.as_bytes(),
+        entries: 500,
+    };
+    assert_late(&rt, "LogBook::read", 20, &mut call)
 }
 
 /// A book, and the form of an entry that is made and added to it again and again.

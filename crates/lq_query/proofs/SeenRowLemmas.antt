@@ -22,12 +22,12 @@ use Rattle.lq_schema.specs.Kinds.{program_kind}
 use Rattle.lq_schema.specs.Value.{Value, empty_value}
 use Rattle.lq_live.specs.Ids.{HasRisingIds}
 use Rattle.lq_live.specs.State.{State}
-use Rattle.lq_auth.specs.Rights.{sees_host, sees_host_group, sees_service, sees_service_group}
+use Rattle.lq_auth.specs.Rights.{sees_host, sees_host_group, sees_object, sees_service, sees_service_group}
 use Rattle.lq_auth.specs.declared.view.View.{View}
 use Rattle.lq_tables.specs.About.{host_of_object, row_comment, row_downtime, row_host_group, row_object, row_service_group, service_of_object}
 use Rattle.lq_tables.specs.Cells.{cell_of, contact_group_cell, host_group_part, host_part, own_cell, service_group_part, service_part}
 use Rattle.lq_tables.specs.Parts.{command_cell, comment_cell, contact_cell, downtime_cell, period_cell, program_cell, program_part, schema_cell}
-use Rattle.lq_tables.specs.Rows.{group_service_rows, host_group_rows, numbered, rows_of, sees_object, sees_row, service_group_rows, service_rows, table_rows}
+use Rattle.lq_tables.specs.Rows.{group_service_rows, host_group_rows, numbered, rows_of, sees_row, service_group_rows, service_rows, table_rows}
 use Rattle.lq_tables.specs.declared.row.Row.{Row}
 use Rattle.lq_tables.specs.declared.row.Row.TheVariants as row
 use Rattle.lq_tables.proofs.OwnLemmas.{own_of}

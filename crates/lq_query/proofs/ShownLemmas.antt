@@ -36,7 +36,7 @@ use Rattle.lq_schema.specs.declared.status.StatusColumn.{StatusColumn}
 use Rattle.lq_schema.specs.declared.status.StatusColumn.TheVariants as status_column
 use Rattle.lq_schema.specs.Value.{Numbers}
 use Rattle.lq_live.specs.State.{State}
-use Rattle.lq_auth.specs.Rights.{sees_host, sees_service, sees_service_at}
+use Rattle.lq_auth.specs.Rights.{sees_host, sees_object, sees_service, sees_service_at}
 use Rattle.lq_auth.specs.declared.view.View.{View}
 use Rattle.lq_columns.specs.Cells.{HostRecord, ServiceRecord, host_at, host_cell, hosts_cell, natural, service_at, service_cell, services_cell, status_cell}
 use Rattle.lq_columns.specs.Counts.{group_members, scope_places, seen_members, seen_places, service_places, worst_host, worst_of, worst_service}
@@ -45,7 +45,6 @@ use Rattle.lq_columns.specs.declared.scope.Scope.{Scope}
 use Rattle.lq_columns.specs.declared.scope.Scope.TheVariants as scope
 use Rattle.lq_tables.specs.About.{host_of_object, service_of_object}
 use Rattle.lq_tables.specs.Cells.{host_group_cell, host_group_part, host_part, service_group_cell, service_group_part, service_part}
-use Rattle.lq_tables.specs.Rows.{sees_object}
 use Rattle.lq_query.specs.Isolation.{AgreesIn, is_shown}
 use Rattle.lq_query.proofs.KeptLemmas.{filter_kept, filter_map_kept, kept_of_same}
 

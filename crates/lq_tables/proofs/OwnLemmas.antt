@@ -20,7 +20,8 @@ use Rattle.lq_auth.specs.declared.view.View.{View}
 use Rattle.lq_auth.specs.declared.view.View.TheVariants as view
 use Rattle.lq_tables.specs.About.{row_comment, row_downtime, row_object}
 use Rattle.lq_tables.specs.Own.{HasIdsRising, IsOwn, row_id}
-use Rattle.lq_tables.specs.Rows.{rows_of, sees_object, sees_row}
+use Rattle.lq_auth.specs.Rights.{sees_object}
+use Rattle.lq_tables.specs.Rows.{rows_of, sees_row}
 use Rattle.lq_tables.specs.declared.row.Row.{Row}
 use Rattle.lq_tables.specs.declared.row.Row.TheVariants as row
 

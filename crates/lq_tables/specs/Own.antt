@@ -4,9 +4,9 @@ use Rattle.lq_schema.specs.declared.columns.Table.{Table}
 use Rattle.lq_schema.specs.declared.columns.Table.TheVariants as table
 use Rattle.lq_live.specs.Ids.{IdsRise}
 use Rattle.lq_live.specs.State.{State}
+use Rattle.lq_auth.specs.Rights.{sees_object}
 use Rattle.lq_auth.specs.declared.view.View.{View}
 use Rattle.lq_tables.specs.About.{row_comment, row_downtime}
-use Rattle.lq_tables.specs.Rows.{sees_object}
 use Rattle.lq_tables.specs.declared.row.Row.{Row}
 use Rattle.lq_tables.specs.declared.row.Row.TheVariants as row
 

@@ -9,10 +9,8 @@ use Rattle.lq_schema.specs.declared.columns.Table.{Table}
 use Rattle.lq_schema.specs.declared.columns.Table.TheVariants as table
 use Rattle.lq_records.specs.declared.ids.HostGroupId.{HostGroupId}
 use Rattle.lq_records.specs.declared.ids.HostId.{HostId}
-use Rattle.lq_records.specs.declared.object.Object.{Object}
-use Rattle.lq_records.specs.declared.object.Object.TheVariants as object
 use Rattle.lq_live.specs.State.{State}
-use Rattle.lq_auth.specs.Rights.{sees_host, sees_host_group, sees_service, sees_service_group}
+use Rattle.lq_auth.specs.Rights.{sees_host, sees_host_group, sees_object, sees_service, sees_service_group}
 use Rattle.lq_auth.specs.declared.view.View.{View}
 use Rattle.lq_tables.specs.About.{row_object}
 use Rattle.lq_tables.specs.Schema.{schema}
@@ -81,11 +79,6 @@ table_rows s table.ServicesByHostGroup =
     flat_map (group_service_rows s.base.services) (numbered s.base.host_groups)
 
 -- ---- rights
-
--- a host or a service
-abbrev pub sees_object : View → Object → Bool
-sees_object view (object.Host id) = sees_host view id
-sees_object view (object.Service id) = sees_service view id
 
 -- a group is seen by itself, a pair of a group and an object where both are, any other row where
 -- the host or the service is seen that it is about; rows about none are seen by all

@@ -1,7 +1,6 @@
-ghost use Rattle.std.specs.Prelude.{◌≡◌, IfOk, IsOk, filter};
+ghost use Rattle.std.specs.Prelude.{◌≡◌, IfOk, IsOk};
 ghost use Rattle.std.specs.List.{slice_get};
 ghost use Rattle.std.specs.Option.{IfSome, IsSome, option_copied};
-ghost use Rattle.lq_auth.specs.Rights.{sees_service};
 ghost use Rattle.lq_auth.specs.declared.view.View.{View};
 ghost use Rattle.lq_columns.specs.Plain.{IsPlain, IsText};
 ghost use Rattle.lq_records.specs.declared.base.Base.{Base};
@@ -11,11 +10,9 @@ ghost use Rattle.lq_tables.specs.Cells.{contact_group_cell, host_group_cell, hos
 
 use crate::pairs::pairs_of;
 use lq_auth::View;
-use lq_columns::{
-    Scope, empty_text, empty_value, hosts_value, names_of, seen_hosts, services_value,
-};
+use lq_columns::{Scope, empty_text, empty_value, hosts_value, names_of, services_value};
 use lq_live::Live;
-use lq_records::{Base, ContactGroup, HostGroupId, Memory, ServiceGroupId, ServiceId};
+use lq_records::{Base, ContactGroup, HostGroupId, Memory, ServiceGroupId};
 use lq_schema::{ContactGroupColumn, HostGroupColumn, OwnColumn, ServiceGroupColumn, Val};
 use std::alloc::Global;
 
@@ -92,8 +89,8 @@ pub(crate) fn host_group_text(
     }
 }
 
-/// The value of a column on a group of hosts. Its members and its
-/// counters are of those that a query sees. Its members take memory, which is the only error.
+/// The value of a column on a group of hosts. Its members and its counters are of those that a query
+/// sees. Its members take memory, which is the only error.
 pub(crate) fn host_group_value<'a>(
     alloc: Global,
     live: &'a Live,
@@ -118,7 +115,7 @@ pub(crate) fn host_group_value<'a>(
         HostGroupColumn::NotesUrl => Ok(Val::Str(group.notes_url.as_str())),
         HostGroupColumn::ActionUrl => Ok(Val::Str(group.action_url.as_str())),
         HostGroupColumn::Members => {
-            let members = seen_hosts(alloc, view, group.members.as_slice())?;
+            let members = view.seen_of(alloc, group.members.as_slice())?;
             let names = names_of(alloc, live.base(), &members)?;
             Ok(Val::List(names))
         }
@@ -183,7 +180,7 @@ pub(crate) fn service_group_value<'a>(
         ServiceGroupColumn::NotesUrl => Ok(Val::Str(group.notes_url.as_str())),
         ServiceGroupColumn::ActionUrl => Ok(Val::Str(group.action_url.as_str())),
         ServiceGroupColumn::Members => {
-            let members = seen_services(alloc, view, group.members.as_slice())?;
+            let members = view.seen_of(alloc, group.members.as_slice())?;
             let pairs = pairs_of(alloc, live.base(), &members)?;
             Ok(Val::Pairs(pairs))
         }
@@ -191,19 +188,4 @@ pub(crate) fn service_group_value<'a>(
             Ok(services_value(alloc, live, view, Scope::ServiceGroup(id), column))
         }
     }
-}
-
-/// Those of some services that are seen.
-fn seen_services(
-    alloc: Global,
-    view: &View,
-    services: &[ServiceId],
-) -> Result<Vec<ServiceId>, Memory>
-    ensures { IfOk result (λ seen. seen.items ≡ filter (sees_service view.now) services.now) }
-{
-    services
-        .iter()
-        .copied()
-        .filter(|service| view.sees_service(*service))
-        .collect(alloc)
 }

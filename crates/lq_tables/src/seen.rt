@@ -1,13 +1,13 @@
 ghost use Rattle.std.specs.Prelude.{◌≡◌, IfOk, filter};
 ghost use Rattle.lq_tables.specs.Own.{HasIdsRising, IsOwn};
-ghost use Rattle.lq_tables.specs.Rows.{rows_of, sees_object, sees_row};
+ghost use Rattle.lq_tables.specs.Rows.{rows_of, sees_row};
 
 use crate::about::row_object;
 use crate::listing::table_rows;
 use crate::row::Row;
 use lq_auth::View;
 use lq_live::Live;
-use lq_records::{Items, Memory, Object};
+use lq_records::{Items, Memory};
 use lq_schema::Table;
 use std::alloc::Global;
 
@@ -56,18 +56,8 @@ fn sees_row(live: &Live, view: &View, row: Row) -> bool
         Row::ServiceOf(group, id) => view.sees_service_group(group) && view.sees_service(id),
         Row::GroupService(group, id) => view.sees_host_group(group) && view.sees_service(id),
         _ => match row_object(live, row) {
-            Some(object) => sees_object(view, object),
+            Some(object) => view.sees_object(object),
             None => true,
         },
-    }
-}
-
-/// Whether a query sees a host or a service.
-fn sees_object(view: &View, object: Object) -> bool
-    ensures { result ≡ sees_object view.now object }
-{
-    match object {
-        Object::Host(id) => view.sees_host(id),
-        Object::Service(id) => view.sees_service(id),
     }
 }

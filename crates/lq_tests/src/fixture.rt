@@ -188,6 +188,15 @@ fn live_under(alloc: Global, objects: &[u8], rules: Rules) -> Result<Live, Fail>
     Ok(Live::open(alloc, base, LogBook::empty(alloc))?)
 }
 
+/// The opening state of an object file and a log, which is without a fault.
+fn live_after(alloc: Global, objects: &[u8], log: &[u8]) -> Result<Live, Fail> {
+    let base = base_of(alloc, objects)?;
+    match LogBook::read(alloc, log) {
+        Ok(log) => Ok(Live::open(alloc, base, log)?),
+        Err(_) => Err(Fail::new("the log is refused")),
+    }
+}
+
 /// The site of an object file, on which commands are played, and what queries are answered then.
 pub(crate) fn asked(
     alloc: Global,
@@ -212,6 +221,13 @@ impl Site {
     pub(crate) fn under(alloc: Global, objects: &[u8], rules: Rules) -> Result<Box<Self>, Fail> {
         let named = base_of(alloc, objects)?;
         let live = live_under(alloc, objects, rules)?;
+        Ok(Box::new(alloc, Site { named, live })?)
+    }
+
+    /// The site of an object file as a log left it.
+    pub(crate) fn after_log(alloc: Global, objects: &[u8], log: &[u8]) -> Result<Box<Self>, Fail> {
+        let named = base_of(alloc, objects)?;
+        let live = live_after(alloc, objects, log)?;
         Ok(Box::new(alloc, Site { named, live })?)
     }
 

@@ -17,6 +17,8 @@ mod live;
 #[cfg(test)]
 mod objects;
 #[cfg(test)]
+mod opening;
+#[cfg(test)]
 mod rights;
 #[cfg(test)]
 mod schema;

@@ -160,6 +160,7 @@ const OF_SERVICES: &[(&str, &str)] = &[
     ("eve", "web1;http\nweb1;disk\nweb3;load\n"),
     ("dora", ""),
     ("nobody", ""),
+    ("", ""),
     // The limit counts rows that are seen.
     ("bert\nLimit: 1", "web1;disk\n"),
     ("bert\nLimit: 1\nFilter: state = 1", "web2;ping\n"),
@@ -183,6 +184,8 @@ const OF_COUNTED: &[(&str, &str)] = &[
     ("anna", "1;1;2\n"),
     ("bert", "0;2;3\n"),
     ("nobody", "0;0;0\n"),
+    ("dora", "0;0;0\n"),
+    ("", "0;0;0\n"),
     ("anna\nColumns: host_name", "web1;1;1;2\n"),
 ];
 
@@ -193,6 +196,8 @@ const OF_COMMENTS: &[(&str, &str)] = &[
     ("bert", "2\n3\n"),
     ("carl", ""),
     ("nobody", ""),
+    ("dora", ""),
+    ("", ""),
 ];
 
 const DOWNTIMES: &str = "GET downtimes\nColumns: id\nAuthUser: ";
@@ -202,6 +207,8 @@ const OF_DOWNTIMES: &[(&str, &str)] = &[
     ("bert", "1\n"),
     ("carl", ""),
     ("nobody", ""),
+    ("dora", ""),
+    ("", ""),
 ];
 
 const HOST_GROUPS: &str = "GET hostgroups
@@ -214,6 +221,7 @@ const OF_HOST_GROUPS: &[(&str, &str)] = &[
     ("carl", "third;web3;1;0;0;1;0\n"),
     ("dora", ""),
     ("nobody", ""),
+    ("", ""),
 ];
 
 const SERVICE_GROUPS: &str = "GET servicegroups
@@ -225,6 +233,8 @@ const OF_SERVICE_GROUPS: &[(&str, &str)] = &[
     ("bert", "berts;web1|disk,web2|ping;2;1;2\n"),
     ("carl", ""),
     ("nobody", ""),
+    ("dora", ""),
+    ("", ""),
 ];
 
 const HOSTS_BY_GROUP: &str = "GET hostsbygroup\nColumns: hostgroup_name name\nAuthUser: ";
@@ -234,6 +244,8 @@ const OF_HOSTS_BY_GROUP: &[(&str, &str)] = &[
     ("carl", "third;web3\n"),
     ("eve", "third;web3\n"),
     ("nobody", ""),
+    ("dora", ""),
+    ("", ""),
 ];
 
 const SERVICES_BY_GROUP: &str =
@@ -243,6 +255,8 @@ const OF_SERVICES_BY_GROUP: &[(&str, &str)] = &[
     ("anna", ""),
     ("bert", "berts;disk\nberts;ping\n"),
     ("nobody", ""),
+    ("dora", ""),
+    ("", ""),
 ];
 
 const SERVICES_BY_HOST_GROUP: &str =
@@ -252,6 +266,8 @@ const OF_SERVICES_BY_HOST_GROUP: &[(&str, &str)] = &[
     ("anna", ""),
     ("carl", "third;load\n"),
     ("nobody", ""),
+    ("dora", ""),
+    ("", ""),
 ];
 
 /// Tables that show all to each, and cells that aren't cut.
@@ -321,6 +337,7 @@ const OF_HOST_GROUPS_LOOSELY: &[(&str, &str)] = &[
     ("carl", "third;web3;1;0;0;1;0\nall;web3;1;0;0;1;0\n"),
     ("dora", ""),
     ("nobody", ""),
+    ("", ""),
 ];
 
 const OF_SERVICE_GROUPS_LOOSELY: &[(&str, &str)] = &[

@@ -5,9 +5,11 @@ ghost use Rattle.lq_log.specs.Entries.{IsOfLine};
 ghost use Rattle.lq_log.specs.declared.book.TheConstants.{TIME_LIMIT};
 
 use lq_events::{Kind, LogEntry};
-use lq_log::{DowntimeChange, Form, LogBook, make_line, read_line};
+use lq_log::{DowntimeChange, Form, LogBook, LogErr, make_line, read_line};
 use lq_records::Text;
+use lq_steps::Steps;
 use std::alloc::{AllocError, Global};
+use std::marker::Brand;
 use std::process::Abort;
 use std::test::Fail;
 
@@ -437,5 +439,145 @@ fn a_book_takes_entries(rt: HostRuntime) -> Result<(), Fail> {
     assert!(rt; !book.is_empty());
     assert!(rt; book.entries().len() == 3);
     assert!(rt; book.entries().last().map(|entry| entry.time) == Some(999_999_999_999));
+    Ok(())
+}
+
+// ---- whole logs
+
+/// The seconds and the messages of a log's entries, one a line, and then how many lines have none.
+fn read(alloc: Global, log: &[u8]) -> Result<String, Fail> {
+    let Ok(book) = LogBook::read(alloc, log) else {
+        return Err(Fail::new("the log is refused"));
+    };
+    let mut text = String::new(alloc);
+    for entry in book.entries() {
+        let line = format!(in alloc; "{} {}\n", entry.time, entry.message.as_str())?;
+        text.push_str(line.as_str())?;
+    }
+    let skipped = format!(in alloc; "{}", book.skipped())?;
+    text.push_str(skipped.as_str())?;
+    Ok(text)
+}
+
+/// Logs, each with its entries and how many of its lines have none.
+const LOGS: &[(&[u8], &str)] = &[
+    (b"", "0"),
+    (b"\n", "1"),
+    (b"[100] a\n[90] b\xff", "100 [100] a\n100 [90] b\u{FFFD}\n0"),
+    (b"[5] a\r\n[6] b\r\n", "5 [5] a\n6 [6] b\n0"),
+    (b"[5] a\r", "5 [5] a\r\n0"),
+    (b"[5] a\r\r\n", "5 [5] a\r\n0"),
+    (
+        b"x\n\n[5] a\n [6] b\n[7 c\n[] d\n[0]\n[1234567890123] e\n[6]f\n",
+        "5 [5] a\n5 [0]\n6 [6]f\n6",
+    ),
+    (
+        b"[9] \xe2\x82\xac \xe2\x82 \xc3\xa9\n",
+        "9 [9] \u{20AC} \u{FFFD}\u{FFFD} \u{E9}\n0",
+    ),
+    (b"[7]\xff a\n[\xff8] b\n", "7 [7]\u{FFFD} a\n1"),
+];
+
+#[test]
+fn a_log_has_an_entry_for_each_line_with_a_second(rt: HostRuntime) -> Result<(), Fail> {
+    for (log, expected) in LOGS {
+        let found = read(rt.alloc(), *log)?;
+        assert_eq!(rt; found.as_str(), *expected, "at {log:?}");
+    }
+    Ok(())
+}
+
+/// The fault of a log, without a fault how many entries it has.
+fn fault(alloc: Global, log: &[u8]) -> Result<String, AllocError> {
+    match LogBook::read(alloc, log) {
+        Ok(book) => format!(in alloc; "{} entries", book.len()),
+        Err(error) => format!(in alloc; "{error}"),
+    }
+}
+
+/// As many bytes of one kind.
+fn push_many(bytes: &mut Vec<u8>, byte: u8, count: usize) -> Result<(), AllocError> {
+    for _ in 0..count {
+        bytes.push(byte)?;
+    }
+    Ok(())
+}
+
+/// A line of a log with a text of so many bytes, and its end.
+fn line_of(alloc: Global, length: usize, end: &[u8]) -> Result<Vec<u8>, AllocError> {
+    let mut line = Vec::from_slice(alloc, b"[1] ")?;
+    push_many(&mut line, b'x', length.saturating_sub(4))?;
+    line.extend_from_slice(end)?;
+    Ok(line)
+}
+
+#[test]
+fn a_line_of_a_log_has_8_192_bytes_at_most(rt: HostRuntime) -> Result<(), Fail> {
+    let alloc = rt.alloc();
+    let ends: [&[u8]; 3] = [b"", b"\n", b"\r\n"];
+    for end in ends {
+        let longest = line_of(alloc, 8192, end)?;
+        assert_eq!(rt; fault(alloc, &longest)?.as_str(), "1 entries", "at {end:?}");
+        let longer = line_of(alloc, 8193, end)?;
+        assert_eq!(rt;
+            fault(alloc, &longer)?.as_str(),
+            "line 1: line too long",
+            "at {end:?}"
+        );
+    }
+    // At the end of the log a carriage return is a part of its line.
+    let returned = line_of(alloc, 8192, b"\r")?;
+    assert_eq!(rt; fault(alloc, &returned)?.as_str(), "line 1: line too long");
+    let mut later = Vec::from_slice(alloc, b"\n[1] a\n")?;
+    later.extend_from_slice(&line_of(alloc, 9000, b"\n")?)?;
+    later.extend_from_slice(&line_of(alloc, 9001, b"\n")?)?;
+    assert_eq!(rt; fault(alloc, &later)?.as_str(), "line 3: line too long");
+    Ok(())
+}
+
+/// So many empty lines, and then a last piece.
+fn empty_lines(alloc: Global, count: usize, last: &[u8]) -> Result<Vec<u8>, AllocError> {
+    let mut log = Vec::with_capacity(alloc, count)?;
+    push_many(&mut log, b'\n', count)?;
+    log.extend_from_slice(last)?;
+    Ok(log)
+}
+
+#[test]
+fn a_log_has_200_000_lines_at_most(rt: HostRuntime) -> Result<(), Fail> {
+    let alloc = rt.alloc();
+    let most = empty_lines(alloc, 199_999, b"[1] a")?;
+    assert_eq!(rt; fault(alloc, &most)?.as_str(), "1 entries");
+    let whole = empty_lines(alloc, 200_000, b"")?;
+    assert_eq!(rt; fault(alloc, &whole)?.as_str(), "0 entries");
+    let more = empty_lines(alloc, 200_000, b"x")?;
+    assert_eq!(rt;
+        fault(alloc, &more)?.as_str(),
+        "line 200001: too many lines"
+    );
+    // A line that passes both limits is one too many.
+    let both = empty_lines(alloc, 200_000, &line_of(alloc, 9000, b"\n")?)?;
+    assert_eq!(rt;
+        fault(alloc, &both)?.as_str(),
+        "line 200001: too many lines"
+    );
+    let before = line_of(alloc, 9000, b"\n")?;
+    let mut first = before;
+    first.extend_from_slice(&more)?;
+    assert_eq!(rt; fault(alloc, &first)?.as_str(), "line 1: line too long");
+    Ok(())
+}
+
+#[test]
+fn a_book_keeps_how_many_lines_have_no_entry(rt: HostRuntime) -> Result<(), Fail> {
+    let log = b"x\n[5] a\n[3] b\n";
+    let Ok(book) = LogBook::read(rt.alloc(), log) else {
+        return Err(Fail::new("the log is refused"));
+    };
+    let mut book = book;
+    book.reserve(1)?;
+    assert_eq!(rt; book.skipped(), 1);
+    assert_eq!(rt; book.copy(rt.alloc())?.skipped(), 1);
+    assert_eq!(rt; LogBook::empty(rt.alloc()).skipped(), 0);
     Ok(())
 }

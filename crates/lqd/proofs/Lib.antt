@@ -3,3 +3,4 @@ pub mod StreamLemmas
 pub mod DigitLemmas
 pub mod ReportLemmas
 pub mod LoadLemmas
+pub mod OpenLemmas

@@ -4,3 +4,4 @@ pub mod Reading
 pub mod Session
 pub mod Faults
 pub mod Run
+pub mod Words

@@ -2,7 +2,7 @@ ghost use Rattle.std.specs.Prelude.{◌≡◌, ◌++◌, ◌≤◌, drop, OnOk};
 ghost use Rattle.std.specs.Fmt.{decimal};
 ghost use Rattle.std.specs.Io.KnownBytes.{Appends};
 ghost use Rattle.lq_outside.specs.Faults.{HasCause};
-ghost use Rattle.lqd.specs.Faults.{IsStatus, objects_text, status_of, end_text};
+ghost use Rattle.lqd.specs.Faults.{IsStatus, at_line, end_text, log_text, objects_text, status_of};
 
 use lq_objects::ObjectsWhat;
 use lq_outside::{Failed, Sink, write_all};
@@ -19,6 +19,20 @@ pub enum ObjectsFault {
     TooLarge,
 }
 
+/// The most bytes that a log may have.
+pub const LOG_LIMIT: u64 = 67_108_864;
+
+/// What is wrong with a log.
+#[derive(Clone, Copy, PartialEq, Eq)]
+pub enum LogFault {
+    /// The number of the first line that is too many, from 1.
+    TooManyLines { line: u64 },
+    /// The number of the first line that is too long, from 1.
+    LineTooLong { line: u64 },
+    /// The log has more than `LOG_LIMIT` bytes.
+    TooLarge,
+}
+
 /// Why the program ends without having done its work.
 #[derive(Clone, Copy)]
 pub enum Fault<'a> {
@@ -26,6 +40,8 @@ pub enum Fault<'a> {
     Usage,
     /// The object file is refused.
     Objects(ObjectsFault),
+    /// The log is refused.
+    Log(LogFault),
     /// No file is at this path.
     FileMissing(&'a str),
     /// The file at this path can't be read.
@@ -47,6 +63,7 @@ impl Fault<'_> {
         match self {
             Fault::Usage => 1,
             Fault::Objects(_) => 2,
+            Fault::Log(_) => 3,
             Fault::FileMissing(_) | Fault::FileUnreadable(_) => 4,
             Fault::Read => 5,
             Fault::Write => 6,
@@ -63,6 +80,7 @@ impl Fault<'_> {
         match self {
             Fault::Usage => write_all(sink, b"usage: lqd ask|replay|serve|load\n"),
             Fault::Objects(fault) => fault.report(sink),
+            Fault::Log(fault) => fault.report(sink),
             Fault::FileMissing(path) => write_parts(
                 sink,
                 b"file: ",
@@ -101,22 +119,41 @@ impl ObjectsFault {
         ensures cause { HasCause (K.faults sink.old) (K.faults sink.new) result }
     {
         match self {
-            ObjectsFault::At { line, what } => report_line(sink, line, what),
+            ObjectsFault::At { line, what } => {
+                report_line(sink, b"objects: line ", line, what.text())
+            }
             ObjectsFault::TooLarge => write_all(sink, b"objects: too large\n"),
         }
     }
 }
 
-/// Writes what is wrong in a line of the object file.
-fn report_line<K: Sink>(sink: &mut K, number: u64, what: ObjectsWhat) -> Result<(), Failed>
-    ensures ok { OnOk result (Appends (K.held sink.old) (K.held sink.new)
-        (objects_text (ObjectsFault.At number what))) }
+impl LogFault {
+    fn report<K: Sink>(self, sink: &mut K) -> Result<(), Failed>
+        ensures ok { OnOk result (Appends (K.held sink.old) (K.held sink.new) (log_text self)) }
+        ensures cause { HasCause (K.faults sink.old) (K.faults sink.new) result }
+    {
+        match self {
+            LogFault::TooManyLines { line } => {
+                report_line(sink, b"log: line ", line, "too many lines")
+            }
+            LogFault::LineTooLong { line } => {
+                report_line(sink, b"log: line ", line, "line too long")
+            }
+            LogFault::TooLarge => write_all(sink, b"log: too large\n"),
+        }
+    }
+}
+
+/// Writes a front, the number of a line and what is wrong there.
+fn report_line<K: Sink>(sink: &mut K, front: &[u8], number: u64, what: &str) -> Result<(), Failed>
+    ensures ok { OnOk result
+        (Appends (K.held sink.old) (K.held sink.new) (front.now ++ at_line number what.now)) }
     ensures cause { HasCause (K.faults sink.old) (K.faults sink.new) result }
 {
     let mut digits = [0; DIGITS];
     let start = write_digits(&mut digits, number);
-    write_all(sink, b"objects: line ")?;
-    write_parts(sink, &digits[start..], b": ", what.text().as_bytes())?;
+    write_all(sink, front)?;
+    write_parts(sink, &digits[start..], b": ", what.as_bytes())?;
     write_all(sink, b"\n")?;
     Ok(())
 }

@@ -1,34 +1,38 @@
-ghost use Rattle.std.specs.Prelude.{◌≡◌, ◌↔◌, ◌⊎◌, ℕ, ◌≤◌, List, None, map, string_bytes, IfOk, IfErr, IfSome};
+ghost use Rattle.std.specs.Prelude.{◌≡◌, ◌↔◌, ◌⊎◌, ℕ, ◌≤◌, List, None, map, string_bytes, IfOk, IfErr, IfSome, IsSomeAnd};
+ghost use Rattle.std.specs.Option.{option_copied};
 ghost use Rattle.std.specs.Io.KnownBytes.{Appends};
 ghost use Rattle.lq_outside.specs.Faults.{Rose};
 ghost use Rattle.lq_outside.specs.Sinks.{AppendsFront};
 ghost use Rattle.lq_records.specs.Sound.{IsSound};
-ghost use Rattle.lq_live.specs.State.{opened};
-ghost use Rattle.lqd.specs.CommandLine.{asked_words, wanted_by};
+ghost use Rattle.lqd.specs.CommandLine.{asked_words};
 ghost use Rattle.lqd.specs.Faults.{IsStatus, status_of, end_text};
 ghost use Rattle.lqd.specs.Reading.{ReadsAll, ReadsNoFurther, ReadsPart, ReadsSome, RepliesToFirst, RepliesToPart, RepliesToRead};
 ghost use Rattle.lqd.specs.Replies.{replies};
-ghost use Rattle.lqd.specs.Run.{IsRefused, LoadsNoBase, MustRefuse, OnBase, OnFile, Reports};
+ghost use Rattle.lqd.specs.Run.{IsRefused, IsRefusedLog, LoadsNoBase, LoadsNoLog, MustRefuse, MustRefuseLog, OnFile, OnLog, OnOpening, Opens, OpensLog, OpensNone, Reports, SaysBase, SaysLog};
+ghost use Rattle.lqd.specs.Words.{wanted_by};
 
 use crate::command_line::{Asked, asked_words};
-use crate::fault::{Fault, OBJECTS_LIMIT, ObjectsFault};
+use crate::fault::{Fault, LOG_LIMIT, LogFault, OBJECTS_LIMIT, ObjectsFault};
 use crate::session::{ServeErr, serve};
+use lq_live::Live;
+use lq_log::{LogBook, LogErr};
 use lq_objects::{ObjectsErr, read_objects};
 use lq_outside::{Files, LoadErr, Sink, Source};
 use lq_records::Base;
 use std::alloc::Global;
 
-/// Runs the program: `ask OBJECTS` serves the messages of the input over the objects of a file, by
-/// the rules of rights that its options choose (`asked_words`).
-/// Each query is answered at the state that the commands before it left. The connection ends after
-/// a query without `KeepAlive: on`, after a message that is too long, after the 10,000th message,
-/// or with the input. The answer is the status that the program ends with:
+/// Runs the program: `ask OBJECTS` serves the messages of the input over the objects of a file, and
+/// with `--log FILE` from the state that a log left, by the rules of rights that its options choose
+/// (`asked_words`). Each query is answered at the state that the commands before it left. The
+/// connection ends after a query without `KeepAlive: on`, after a message that is too long, after
+/// the 10,000th message, or with the input. The answer is the status that the program ends with:
 ///
 /// - 0: all messages up to the end of the connection were served. A command writes nothing; neither
 ///   does a refused query or a message that is too long without `ResponseHeader: fixed16`.
 /// - 1: the words are outside the grammar.
 /// - 2: the object file is refused, or has more than 67,108,864 bytes.
-/// - 4: the object file is missing or can't be read.
+/// - 3: the log is refused, or has more than 67,108,864 bytes. The object file is read before it.
+/// - 4: the object file or the log is missing or can't be read.
 /// - 5: the input can't be read.
 /// - 6: the output can't be written.
 /// - 7: out of memory. Where it ran out for a query or a message that is too long, the reply to it
@@ -53,43 +57,46 @@ pub fn run<R, F: Files, S: Source, K: Sink>(
         (λ wanted file. IsRefused wanted.rules file) }
     ensures exactly { OnFile (asked_words (map string_bytes words.now)) (F.held_at files.old)
         (λ wanted file. MustRefuse wanted.rules result file) }
+    ensures log { result ≡ 3
+        → OnLog (asked_words (map string_bytes words.now)) (F.held_at files.old) IsRefusedLog }
+    ensures log_exactly { IfSome (asked_words (map string_bytes words.now))
+        (λ wanted. IfSome wanted.log (λ path.
+        MustRefuseLog result (F.held_at files.old path))) }
     ensures file_cause { result ≡ 4 → Rose (F.faults files.old) (F.faults files.new) }
     ensures read_cause { result ≡ 5 → Rose (S.faults input.old) (S.faults input.new) }
     ensures write_cause { result ≡ 6 → Rose (K.faults output.old) (K.faults output.new) }
 
     // What was read and written at each status.
-    ensures untouched { (result ≡ 1) ⊎ (result ≡ 2) ⊎ (result ≡ 4)
+    ensures untouched { (result ≡ 1) ⊎ (result ≡ 2) ⊎ (result ≡ 3) ⊎ (result ≡ 4)
         → (input.new ≡ input.old) × (output.new ≡ output.old) }
     ensures no_file { result ≡ 1 → files.new ≡ files.old }
     ensures read { result ≡ 0 → ReadsAll (S.left input.old) (S.left input.new) }
     ensures no_further { result ≡ 0 → ReadsNoFurther (S.left input.old) (S.left input.new) }
     ensures written { result ≡ 0
-        → OnFile (asked_words (map string_bytes words.now)) (F.held_at files.old)
-        (λ wanted file. OnBase wanted.rules file (λ base. IfSome (S.left input.old) (λ all.
-        Appends (K.held output.old) (K.held output.new) (replies (opened base) all)))) }
+        → OnOpening (asked_words (map string_bytes words.now)) (F.held_at files.old)
+        (λ s. IfSome (S.left input.old) (λ all.
+        Appends (K.held output.old) (K.held output.new) (replies s all))) }
     ensures part { result ≡ 5 → ReadsPart (S.left input.old) (S.left input.new) }
     ensures part_written { result ≡ 5
-        → OnFile (asked_words (map string_bytes words.now)) (F.held_at files.old)
-        (λ wanted file. OnBase wanted.rules file (λ base.
-        RepliesToPart (opened base) (S.left input.old) (S.left input.new)
-        (K.held output.old) (K.held output.new))) }
+        → OnOpening (asked_words (map string_bytes words.now)) (F.held_at files.old)
+        (λ s. RepliesToPart s (S.left input.old) (S.left input.new)
+        (K.held output.old) (K.held output.new)) }
     ensures cut_short { result ≡ 6
-        → OnFile (asked_words (map string_bytes words.now)) (F.held_at files.old)
-        (λ wanted file. OnBase wanted.rules file (λ base. IfSome (S.left input.old) (λ all.
-        AppendsFront (K.held output.old) (K.held output.new) (replies (opened base) all)))) }
+        → OnOpening (asked_words (map string_bytes words.now)) (F.held_at files.old)
+        (λ s. IfSome (S.left input.old) (λ all.
+        AppendsFront (K.held output.old) (K.held output.new) (replies s all))) }
     ensures read_before { result ≡ 6
-        → OnFile (asked_words (map string_bytes words.now)) (F.held_at files.old)
-        (λ wanted file. OnBase wanted.rules file (λ base.
-        RepliesToRead (opened base) (S.left input.old) (S.left input.new)
-        (K.held output.old) (K.held output.new))) }
+        → OnOpening (asked_words (map string_bytes words.now)) (F.held_at files.old)
+        (λ s. RepliesToRead s (S.left input.old) (S.left input.new)
+        (K.held output.old) (K.held output.new)) }
     ensures some_read { (result ≡ 6) ⊎ (result ≡ 7)
         → ReadsSome (S.left input.old) (S.left input.new) }
     ensures first_written { result ≡ 7
         → ((input.new ≡ input.old) × (output.new ≡ output.old))
-        ⊎ OnFile (asked_words (map string_bytes words.now)) (F.held_at files.old)
-        (λ wanted file. OnBase wanted.rules file (λ base. IfSome (S.left input.old) (λ all.
-        RepliesToFirst (opened base) all (K.faults output.old) (K.faults output.new)
-        (K.held output.old) (K.held output.new)))) }
+        ⊎ OnOpening (asked_words (map string_bytes words.now)) (F.held_at files.old)
+        (λ s. IfSome (S.left input.old) (λ all.
+        RepliesToFirst s all (K.faults output.old) (K.faults output.new)
+        (K.held output.old) (K.held output.new))) }
 
     // What the fault sink gets, where its count of faults doesn't rise.
     ensures report { ¬ Rose (K.faults faults.old) (K.faults faults.new)
@@ -107,11 +114,11 @@ pub fn run<R, F: Files, S: Source, K: Sink>(
     let Some(asked) = asked_words(words) else {
         return end(Fault::Usage, faults);
     };
-    let base = match load_base(alloc, &asked, files) {
-        Ok(base) => base,
+    let live = match open(alloc, &asked, files) {
+        Ok(live) => live,
         Err(fault) => return end(fault, faults),
     };
-    match serve(alloc, base, input, output) {
+    match serve(alloc, live, input, output) {
         Ok(()) => 0,
         Err(ServeErr::Read) => end(Fault::Read, faults),
         Err(ServeErr::Write) => end(Fault::Write, faults),
@@ -131,14 +138,37 @@ fn end<K: Sink>(fault: Fault, faults: &mut K) -> u8
     fault.status()
 }
 
+/// Reads the object file, and then the log, where one is asked for.
+fn open<'a, F: Files>(alloc: Global, asked: &Asked<'a>, files: &mut F) -> Result<Live, Fault<'a>>
+    ensures ok { IfOk result
+        (λ live. Opens (wanted_by asked.now) (F.held_at files.old) live.state) }
+    ensures count { IfOk result (λ live. live.count ≡ 0) }
+    ensures err { IfErr result (OpensNone (wanted_by asked.now) (F.held_at files.old)
+        (F.faults files.old) (F.faults files.new)) }
+    ensures later { F.faults files.old ≤ F.faults files.new }
+    ensures stays { (p : List ℕ) → F.held_at files.new p ≡ F.held_at files.old p }
+{
+    let base = match load_base(alloc, asked, files) {
+        Ok(base) => base,
+        Err(fault) => return Err(fault),
+    };
+    let log = match load_log(alloc, asked.log, files) {
+        Ok(log) => log,
+        Err(fault) => return Err(fault),
+    };
+    match Live::open(alloc, base, log) {
+        Ok(live) => Ok(live),
+        Err(_) => Err(Fault::Memory),
+    }
+}
+
 /// Loads the object file and reads it.
 fn load_base<'a, F: Files>(
     alloc: Global,
     asked: &Asked<'a>,
     files: &mut F,
 ) -> Result<Base, Fault<'a>>
-    ensures ok { IfOk result (λ base. OnBase asked.now.rules
-        (F.held_at files.old asked.now.path.now) (λ said. said ≡ base)) }
+    ensures ok { IfOk result (SaysBase asked.now.rules (F.held_at files.old asked.now.path.now)) }
     ensures sound { IfOk result IsSound }
     ensures err { IfErr result (LoadsNoBase (wanted_by asked.now)
         (F.held_at files.old asked.now.path.now)
@@ -158,5 +188,48 @@ fn load_base<'a, F: Files>(
         Ok(base) => Ok(base),
         Err(ObjectsErr::At { line, what }) => Err(Fault::Objects(ObjectsFault::At { line, what })),
         Err(ObjectsErr::Memory(_)) => Err(Fault::Memory),
+    }
+}
+
+/// Loads the log and reads it, where one is asked for; else it has no entries.
+fn load_log<'a, F: Files>(
+    alloc: Global,
+    path: Option<&'a str>,
+    files: &mut F,
+) -> Result<LogBook, Fault<'a>>
+    ensures ok { IfOk result
+        (λ log. OpensLog (option_copied path.entry) (F.held_at files.old) log.entries) }
+    ensures err { IfErr result (λ fault. IsSomeAnd (option_copied path.entry)
+        (λ asked. LoadsNoLog asked (F.held_at files.old asked)
+        (F.faults files.old) (F.faults files.new) fault)) }
+    ensures later { F.faults files.old ≤ F.faults files.new }
+    ensures stays { (p : List ℕ) → F.held_at files.new p ≡ F.held_at files.old p }
+{
+    match path {
+        Some(path) => read_log(alloc, path, files),
+        None => Ok(LogBook::empty(alloc)),
+    }
+}
+
+/// Loads a log and reads it.
+fn read_log<'a, F: Files>(alloc: Global, path: &'a str, files: &mut F) -> Result<LogBook, Fault<'a>>
+    ensures ok { IfOk result (λ log. SaysLog (F.held_at files.old path.now) log.entries) }
+    ensures err { IfErr result (LoadsNoLog path.now (F.held_at files.old path.now)
+        (F.faults files.old) (F.faults files.new)) }
+    ensures later { F.faults files.old ≤ F.faults files.new }
+    ensures stays { (p : List ℕ) → F.held_at files.new p ≡ F.held_at files.old p }
+{
+    let bytes = match files.load(alloc, path, LOG_LIMIT) {
+        Ok(bytes) => bytes,
+        Err(LoadErr::Missing) => return Err(Fault::FileMissing(path)),
+        Err(LoadErr::Failed) => return Err(Fault::FileUnreadable(path)),
+        Err(LoadErr::TooLarge) => return Err(Fault::Log(LogFault::TooLarge)),
+        Err(LoadErr::Memory) => return Err(Fault::Memory),
+    };
+    match LogBook::read(alloc, &bytes) {
+        Ok(log) => Ok(log),
+        Err(LogErr::TooManyLines { line }) => Err(Fault::Log(LogFault::TooManyLines { line })),
+        Err(LogErr::LineTooLong { line }) => Err(Fault::Log(LogFault::LineTooLong { line })),
+        Err(LogErr::Memory(_)) => Err(Fault::Memory),
     }
 }

@@ -2,8 +2,6 @@ ghost use Rattle.std.specs.Prelude.{[], ◌≡◌, All, ◌≢◌, ◌<◌, ◌�
 ghost use Rattle.std.specs.Io.KnownBytes.{Appends, Keeps};
 ghost use Rattle.lq_outside.specs.Faults.{HasCause, Rose};
 ghost use Rattle.lq_outside.specs.Sinks.{AppendsFront};
-ghost use Rattle.lq_records.specs.Sound.{IsSound};
-ghost use Rattle.lq_live.specs.State.{opened};
 ghost use Rattle.lq_request.specs.Messages.{Command, Query, TooLong, message_limit};
 ghost use Rattle.lq_output.specs.Header.{refusal_text};
 ghost use Rattle.lq_query.specs.Answer.{answer_of};
@@ -18,11 +16,10 @@ ghost use Rattle.lqd.specs.Session.{Breaks, BreaksReply, Does, Fills, Stops};
 use lq_commands::{CommandErr, Order, read_command};
 use lq_events::Update;
 use lq_live::Live;
-use lq_log::LogBook;
 use lq_output::refusal;
 use lq_outside::{Failed, Sink, Source, write_all};
 use lq_query::answer;
-use lq_records::{Base, Items, Memory, Refusal, Text};
+use lq_records::{Items, Memory, Refusal, Text};
 use lq_request::{Cut, Cutting, ReadErr, Request, read_request, reply_style};
 use std::alloc::{AllocError, Global};
 use std::marker::Model;
@@ -60,28 +57,27 @@ impl From<AllocError> for ServeErr {
 }
 
 /// Serves a connection: reads messages from the input, and writes the reply to each query before
-/// the next message is read. Each command takes its step of the state, which opens with each object
-/// pending. The connection ends after a query that doesn't keep it, after a message that is too
-/// long, after the 10,000th message, or at the end of the input. The errors are `Read`, `Write` and
-/// out of memory. A query or a message that is too long for which memory runs out is refused with
-/// the code 500, in its style, before the connection ends with that error, also where the write of
-/// it fails.
+/// the next message is read. Each command takes its step of the state. The connection ends after a
+/// query that doesn't keep it, after a message that is too long, after the 10,000th message, or at
+/// the end of the input. The errors are `Read`, `Write` and out of memory. A query or a message that
+/// is too long for which memory runs out is refused with the code 500, in its style, before the
+/// connection ends with that error, also where the write of it fails.
 pub fn serve<S: Source, K: Sink>(
     alloc: Global,
-    base: Base,
+    live: Live,
     input: &mut S,
     output: &mut K,
 ) -> Result<(), ServeErr>
-    requires { IsSound base }
+    requires { live.count ≡ 0 }
     ensures written { OnOk result (IfSome (S.left input.old) (λ all.
-        Appends (K.held output.old) (K.held output.new) (replies (opened base) all))) }
+        Appends (K.held output.old) (K.held output.new) (replies live.state all))) }
     ensures read { OnOk result (ReadsAll (S.left input.old) (S.left input.new)) }
     ensures no_further { OnOk result (ReadsNoFurther (S.left input.old) (S.left input.new)) }
-    ensures stopped { IfErr result (λ error. Stops error (opened base)
+    ensures stopped { IfErr result (λ error. Stops error live.state
         (S.left input.old) (S.left input.new) (K.held output.old) (K.held output.new)) }
     ensures refused { result ≡ Err ServeErr.Memory
         → ((input.new ≡ input.old) × (output.new ≡ output.old))
-        ⊎ IfSome (S.left input.old) (λ all. RepliesToFirst (opened base) all
+        ⊎ IfSome (S.left input.old) (λ all. RepliesToFirst live.state all
         (K.faults output.old) (K.faults output.new) (K.held output.old) (K.held output.new)) }
     ensures input_later { S.faults input.old ≤ S.faults input.new }
     ensures output_later { K.faults output.old ≤ K.faults output.new }
@@ -90,7 +86,7 @@ pub fn serve<S: Source, K: Sink>(
     ensures write_cause { result ≡ Err ServeErr.Write
         → Rose (K.faults output.old) (K.faults output.new) }
 {
-    let Ok((mut session, mut cut, mut piece)) = start(alloc, base) else {
+    let Ok((mut session, mut cut, mut piece)) = start(alloc, live) else {
         return Err(ServeErr::Memory);
     };
     serve_all(&mut session, &mut cut, &mut piece, input, output)
@@ -140,17 +136,15 @@ fn serve_all<S: Source, K: Sink>(
     Ok(())
 }
 
-/// The session that a base opens with, no bytes yet, and room for what one read gives.
-fn start(alloc: Global, base: Base) -> Result<(Session, Cut, Vec<u8>), Memory>
-    requires { IsSound base }
-    ensures session { IfOk result (λ parts. parts.0 ≡ opening (opened base)) }
+/// The session over a state, no bytes yet, and room for what one read gives.
+fn start(alloc: Global, live: Live) -> Result<(Session, Cut, Vec<u8>), Memory>
+    ensures session { IfOk result (λ parts. parts.0 ≡ live) }
     ensures cut { IfOk result (λ parts. parts.1 ≡ []) }
     ensures piece { IfOk result (λ parts. vec_len parts.2 ≡ 65536) }
 {
-    let session = Session::open(alloc, base)?;
     let cut = Cut::new(alloc)?;
     let piece = new_piece(alloc)?;
-    Ok((session, cut, piece))
+    Ok((Session { alloc, live }, cut, piece))
 }
 
 /// Room for what one read gives.
@@ -218,15 +212,6 @@ impl Model for Session {
 }
 
 impl Session {
-    /// The session that a base opens with.
-    fn open(alloc: Global, base: Base) -> Result<Self, Memory>
-        requires { IsSound base }
-        ensures { IfOk result (λ session. session ≡ opening (opened base)) }
-    {
-        let live = Live::open(alloc, base, LogBook::empty(alloc))?;
-        Ok(Session { alloc, live })
-    }
-
     /// Serves the message that stands first in what is held.
     fn next<K: Sink>(
         &mut self,

@@ -21,11 +21,18 @@ define host {
  }
 ";
 
-/// What a program is given, beside its words and its input: its file `f`, and the numbers of the calls
-/// that fail.
+/// A log that leaves the second host down.
+const LOG: &[u8] = b"[99] Nagios 4.4.6 starting... (PID=1)
+[100] HOST ALERT: web2;DOWN;HARD;1;away
+[101] HOST ALERT: web9;DOWN;HARD;1;away
+";
+
+/// What a program is given, beside its words and its input: its file `f`, its log `l`, and the
+/// numbers of the calls that fail.
 #[derive(Clone, Copy)]
 struct Outside<'a> {
     file: &'a [u8],
+    log: &'a [u8],
     fail_load: &'a [u64],
     fail_read: &'a [u64],
     fail_write: &'a [u64],
@@ -33,6 +40,7 @@ struct Outside<'a> {
 
 const STEADY: Outside<'static> = Outside {
     file: HOSTS,
+    log: LOG,
     fail_load: &[],
     fail_read: &[],
     fail_write: &[],
@@ -46,13 +54,17 @@ fn texts(alloc: Global, words: &[&str]) -> Result<Vec<String>, AllocError> {
     Ok(texts)
 }
 
-fn files(alloc: Global, bytes: &[u8], fail_at: &[u64]) -> Result<MemFiles, AllocError> {
+fn files(alloc: Global, outside: &Outside<'_>) -> Result<MemFiles, AllocError> {
     let mut pairs = Vec::new(alloc);
     pairs.push((
         String::from_str(alloc, "f")?,
-        Vec::from_slice(alloc, bytes)?,
+        Vec::from_slice(alloc, outside.file)?,
     ))?;
-    MemFiles::new(alloc, pairs, Vec::from_slice(alloc, fail_at)?)
+    pairs.push((
+        String::from_str(alloc, "l")?,
+        Vec::from_slice(alloc, outside.log)?,
+    ))?;
+    MemFiles::new(alloc, pairs, Vec::from_slice(alloc, outside.fail_load)?)
 }
 
 fn source(alloc: Global, bytes: &[u8], fail_at: &[u64]) -> Result<MemSource, AllocError> {
@@ -73,7 +85,7 @@ fn assert_run<R: Abort + AllocGlobal>(
 ) -> Result<(), Fail> {
     let alloc = rt.alloc();
     let words = texts(alloc, words)?;
-    let mut files = files(alloc, outside.file, outside.fail_load)?;
+    let mut files = files(alloc, outside)?;
     let mut input = source(alloc, input, outside.fail_read)?;
     let mut output = MemSink::new(alloc, Vec::from_slice(alloc, outside.fail_write)?)?;
     let mut faults = MemSink::new(alloc, Vec::new(alloc))?;
@@ -748,7 +760,7 @@ fn assert_pieces<R: Abort + AllocGlobal>(
 ) -> Result<(), Fail> {
     let alloc = rt.alloc();
     let words = texts(alloc, &["ask", "f"])?;
-    let mut files = files(alloc, file, &[])?;
+    let mut files = files(alloc, &Outside { file, ..STEADY })?;
     let mut input = OneByte {
         inner: source(alloc, bytes, &[])?,
     };
@@ -1071,7 +1083,7 @@ fn assert_scarce<R: Abort + AllocGlobal>(
 ) -> Result<(), Fail> {
     let alloc = rt.alloc();
     let words = texts(alloc, &["ask", "f"])?;
-    let mut files = files(alloc, HOSTS, &[])?;
+    let mut files = files(alloc, &STEADY)?;
     let mut bytes = Vec::from_slice(alloc, KEPT)?;
     bytes.extend_from_slice(messages)?;
     let mut input = Greedy {
@@ -1126,4 +1138,140 @@ fn a_message_without_memory_is_refused_in_its_style(rt: HostRuntime) -> Result<(
         assert_scarce(&rt, messages, expected)?;
     }
     Ok(())
+}
+
+// ---- the log
+
+const AFTER_LOG: &[u8] = b"web1;0\nweb2;1\n";
+
+const USAGE: &[u8] = b"usage: lqd ask|replay|serve|load\n";
+
+/// Words that speak of a log, with the status and the two outputs.
+const LOG_WORDS: &[(&[&str], (u8, &[u8], &[u8]))] = &[
+    (&["ask", "f", "--log", "l"], (0, AFTER_LOG, b"")),
+    (&["ask", "--log=l", "f"], (0, AFTER_LOG, b"")),
+    (
+        &[
+            "ask",
+            "--group-auth",
+            "loose",
+            "--log",
+            "l",
+            "--service-auth=strict",
+            "--",
+            "f",
+        ],
+        (0, AFTER_LOG, b""),
+    ),
+    // No line of the object file begins with a second.
+    (&["ask", "f", "--log", "f"], (0, ROWS, b"")),
+    (
+        &["ask", "f", "--log", "nowhere"],
+        (4, b"", b"file: nowhere: missing\n"),
+    ),
+    (
+        &["ask", "nowhere", "--log", "gone"],
+        (4, b"", b"file: nowhere: missing\n"),
+    ),
+    (&["ask", "f", "--log="], (4, b"", b"file: : missing\n")),
+    (&["ask", "f", "--log=-x"], (4, b"", b"file: -x: missing\n")),
+    (
+        &["ask", "f", "--log=a=b"],
+        (4, b"", b"file: a=b: missing\n"),
+    ),
+    (&["ask", "f", "--log", "-"], (4, b"", b"file: -: missing\n")),
+    (&["ask", "f", "--log"], (1, b"", USAGE)),
+    (&["ask", "--log", "l"], (1, b"", USAGE)),
+    (&["ask", "f", "--log", "-x"], (1, b"", USAGE)),
+    (&["ask", "f", "--log", "--", "l"], (1, b"", USAGE)),
+    (&["ask", "f", "--", "--log", "l"], (1, b"", USAGE)),
+    (&["ask", "f", "--log", "l", "--log=l"], (1, b"", USAGE)),
+    (&["ask", "f", "--logs", "l"], (1, b"", USAGE)),
+    (&["ask", "f", "--logs=l"], (1, b"", USAGE)),
+    (&["ask", "f", "-l"], (1, b"", USAGE)),
+];
+
+#[test]
+fn a_log_says_where_the_state_begins(rt: HostRuntime) -> Result<(), Fail> {
+    for (words, expected) in LOG_WORDS {
+        assert_run(&rt, *words, &STEADY, QUERY, *expected)?;
+    }
+    let input = b"COMMAND [50] PROCESS_HOST_CHECK_RESULT;web1;1;away
+GET hosts\nColumns: name state last_check plugin_output\n\n";
+    let rows = b"web1;1;101;away\nweb2;1;100;away\n";
+    assert_run(
+        &rt,
+        &["ask", "f", "--log", "l"],
+        &STEADY,
+        input,
+        (0, rows, b""),
+    )
+}
+
+/// The same lines over and over.
+fn repeated(alloc: Global, lines: &[u8], count: usize) -> Result<Vec<u8>, AllocError> {
+    let mut bytes = Vec::with_capacity(alloc, lines.len().saturating_mul(count))?;
+    for _ in 0..count {
+        bytes.extend_from_slice(lines)?;
+    }
+    Ok(bytes)
+}
+
+/// Runs the program on a log, and compares its status and what the fault sink holds. No reply is
+/// written.
+fn assert_log_refused<R: Abort + AllocGlobal>(
+    rt: &R,
+    outside: &Outside<'_>,
+    status: u8,
+    text: &[u8],
+) -> Result<(), Fail> {
+    assert_run(
+        rt,
+        &["ask", "f", "--log", "l"],
+        outside,
+        QUERY,
+        (status, b"", text),
+    )
+}
+
+#[test]
+fn a_log_at_fault_is_told(rt: HostRuntime) -> Result<(), Fail> {
+    let many = repeated(rt.alloc(), b"[1] x\n", 200_001)?;
+    let too_many = Outside {
+        log: &many,
+        ..STEADY
+    };
+    assert_log_refused(&rt, &too_many, 3, b"log: line 200001: too many lines\n")?;
+    let unread = Outside {
+        fail_load: &[1],
+        ..too_many
+    };
+    assert_log_refused(&rt, &unread, 4, b"file: l: cannot be read\n")?;
+    let both = Outside {
+        file: b"define host {\n host_name a",
+        ..too_many
+    };
+    assert_log_refused(&rt, &both, 2, b"objects: line 1: unclosed\n")?;
+    let long = padded(rt.alloc(), b"[1] a\n", b'x', 8193, b"\n")?;
+    let too_long = Outside {
+        log: &long,
+        ..STEADY
+    };
+    assert_log_refused(&rt, &too_long, 3, b"log: line 2: line too long\n")
+}
+
+#[test]
+fn a_log_has_67_108_864_bytes_at_most(rt: HostRuntime) -> Result<(), Fail> {
+    let most = padded(rt.alloc(), b"", b'x', 67_108_864, b"")?;
+    let within = Outside {
+        log: &most,
+        ..STEADY
+    };
+    assert_log_refused(&rt, &within, 3, b"log: line 1: line too long\n")?;
+    let more = padded(rt.alloc(), b"", b'x', 67_108_865, b"")?;
+    let past = Outside {
+        log: &more,
+        ..STEADY
+    };
+    assert_log_refused(&rt, &past, 3, b"log: too large\n")
 }

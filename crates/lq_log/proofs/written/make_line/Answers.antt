@@ -1,6 +1,5 @@
-use Rattle.std.proofs.Common.{◌≡◌, sym, subst, rules}
+use Rattle.std.proofs.Common.{subst, rules}
 use Rattle.lq_log.specs.Entries.{IsOfLine}
-use Rattle.lq_log.specs.Written.{written}
 use Rattle.lq_log.proofs.LineLemmas.{written_of_line}
 use Rattle.lq_log.proofs.StampLemmas.{own_text}
 use Rattle.lq_log.proofs.written.make_line.Goals as goal

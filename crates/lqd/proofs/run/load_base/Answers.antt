@@ -1,6 +1,6 @@
 use Rattle.std.proofs.Common.{◌≡◌, Ok, Err, ap, sym, ◌∙◌}
 use Rattle.lq_objects.specs.Objects.{base_of}
-use Rattle.lqd.proofs.LoadLemmas.{too_large, loaded_base, loaded_fault}
+use Rattle.lqd.proofs.LoadLemmas.{too_large, said_base, loaded_fault}
 use Rattle.lqd.proofs.run.load_base.Goals as goal
 
 pub returns-in-Err-TooLarge-clause-err : goal.returns-in-Err-TooLarge-clause-err
@@ -11,7 +11,7 @@ returns-in-Ok-read_objects-clause-ok g c =
     let loads = c.in-Ok.ensures.loads in
     let read : base_of c.in-Ok.bytes.items c.args.asked.now.rules ≡ Ok c.in-Ok-read_objects.base =
     ap (λ bytes. base_of bytes c.args.asked.now.rules) (sym c.deref.ensures.value) ∙ c.in-Ok-read_objects.ensures.reads in
-    loaded_base _ _ c.in-Ok.bytes.items _ c.in-Ok-read_objects.ensures.sound loads.0 loads.1 read
+    said_base _ _ c.in-Ok.bytes.items _ loads.0 loads.1 read
 
 pub returns-in-Err-At-clause-err : goal.returns-in-Err-At-clause-err
 returns-in-Err-At-clause-err g c =

@@ -1,7 +1,7 @@
 use Rattle.std.proofs.Common.{refl, rules, w64}
 use Rattle.std.proofs.Math.Facts.{to_z-of_z}
 use Rattle.lq_live.specs.Results.{status_after}
-use Rattle.lq_live.proofs.context.StepContext.status_after.Goals as goal
+use Rattle.lq_live.proofs.outcome.Outcome.status_after.Goals as goal
 
 pub returns : goal.returns
 unfolding status_after
@@ -19,5 +19,5 @@ returns c =
       c.ends_acknowledgement-ends.ensures,
       c.changes_state-changed.ensures,
       c.changes_hard-hard_changed.ensures,
-      to_z-of_z {w = w64} {z = c.args.check.state} (search rules),
+      to_z-of_z {w = w64} {z = c.args.self.state} (search rules),
     ) refl

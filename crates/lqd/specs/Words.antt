@@ -1,0 +1,42 @@
+-- What the code has read of a command line, as a part of the line.
+use Rattle.std.specs.Prelude.{ℕ, Option, Some, None, List, [], ◌∷◌, ◌++◌, if◌then◌else◌}
+use Rattle.std.specs.Option.{option_and_then, option_copied, option_map, option_to_list}
+use Rattle.lqd.specs.declared.command_line.Asked.{Asked}
+use Rattle.lqd.specs.declared.command_line.Awaited.{Awaited}
+use Rattle.lqd.specs.declared.command_line.Awaited.TheVariants as awaited
+use Rattle.lqd.specs.declared.command_line.Choice.{Choice}
+use Rattle.lqd.specs.declared.command_line.Said.{Said}
+use Rattle.lqd.specs.CommandLine.{Line, Wanted, is_value, line_of, only_operands, wanted_of, with_value}
+
+-- what the code has found
+abbrev pub wanted_by : Asked → Wanted
+wanted_by asked =
+    record { path = asked.path.now; log = option_copied asked.log; rules = asked.rules }
+
+-- a line with what was read before it
+abbrev pub with_said : Said → Line → Line
+with_said said line = record {
+  operands = option_to_list (option_copied said.path) ++ line.operands;
+  logs = option_to_list (option_copied said.log) ++ line.logs;
+  service_auths = option_to_list (option_copied said.service_auth) ++ line.service_auths;
+  group_auths = option_to_list (option_copied said.group_auth) ++ line.group_auths;
+}
+
+-- the line of words that begin with an option's value
+abbrev pub value_line : Choice → List (List ℕ) → Option Line
+value_line choice [] = None
+value_line choice (value ∷ words) =
+    if is_value value then option_map (with_value choice value) (line_of words) else None
+
+-- the line of words, by what the first of them is
+abbrev pub later_line : Awaited → List (List ℕ) → Option Line
+later_line awaited.Any words = line_of words
+later_line (awaited.Value choice) words = value_line choice words
+later_line awaited.Operand words = Some (only_operands words)
+
+-- what is asked by what was read and by the line of the words to come
+abbrev pub asked_before : Said → Option Line → Option Wanted
+asked_before said later = option_and_then (λ line. wanted_of (with_said said line)) later
+
+abbrev pub asked_with : Said → List (List ℕ) → Option Wanted
+asked_with said words = asked_before said (later_line said.awaited words)
