@@ -7,9 +7,7 @@ ghost use Rattle.lq_log.specs.declared.book.TheConstants.{TIME_LIMIT};
 use lq_events::{Kind, LogEntry};
 use lq_log::{DowntimeChange, Form, LogBook, LogErr, make_line, read_line};
 use lq_records::Text;
-use lq_steps::Steps;
 use std::alloc::{AllocError, Global};
-use std::marker::Brand;
 use std::process::Abort;
 use std::test::Fail;
 
