@@ -1,9 +1,10 @@
-use Rattle.std.proofs.Common.{sym, subst, ◌++◌, codes, OnOk}
+use Rattle.std.proofs.Common.{subst, ◌++◌, codes, OnOk}
 use Rattle.std.specs.Io.KnownBytes.{Appends}
 use Rattle.lqd.specs.Faults.{at_line}
 use Rattle.lqd.proofs.fault.ObjectsFault.report.Goals as goal
 
 pub returns-in-At-clause-ok : goal.returns-in-At-clause-ok
 returns-in-At-clause-ok g c =
-    subst (λ text. OnOk c.report_line.result (Appends (g.K.Sink.held c.args.sink.now) (g.K.Sink.held c.report_line.new.sink)
-    (codes "objects: line " ++ at_line c.in-At.line text))) c.text.ensures c.report_line.ensures.ok
+    rw c.in-At.is
+    (subst (λ text. OnOk c.report_line.result (Appends (g.K.Sink.held c.args.sink.now) (g.K.Sink.held c.report_line.new.sink)
+    (codes "objects: line " ++ at_line c.in-At.line text))) c.text.ensures c.report_line.ensures.ok)
