@@ -1,11 +1,13 @@
-ghost use Rattle.std.specs.Prelude.{◌≡◌, ◌==◌, ◌||◌, false, IfOk, map, slice_index_or};
+ghost use Rattle.std.specs.Prelude.{◌≡◌, ◌==◌, ◌||◌, false, IfOk, map, slice_index_or, zip};
 ghost use Rattle.std.specs.List.{list_any};
-ghost use Rattle.lq_auth.specs.Rights.{has_contact, is_contact_of, is_host_group_seen, is_host_seen, is_service_group_seen, is_service_seen, seen_by};
+ghost use Rattle.lq_auth.specs.Lists.{is_named};
+ghost use Rattle.lq_auth.specs.Rights.{has_contact, is_host_group_seen, is_host_seen, is_service_group_seen, is_service_seen, seen_by};
 
 use crate::marks::{is_group_seen, is_marked, is_one_marked};
 use crate::view::Seen;
 use lq_records::{
-    Base, ContactGroup, ContactId, HostGroup, Items, Memory, ObjectFields, Service, ServiceGroup,
+    Base, ContactGroup, ContactId, ContactIndex, ContactLists, HostGroup, Items, Memory,
+    ServiceGroup,
 };
 use std::alloc::Global;
 use std::marker::Model;
@@ -48,11 +50,36 @@ impl<'a> Viewer<'a> {
         })
     }
 
-    /// Whether it is one of the contacts of an object.
-    fn is_contact_of(&self, fields: &ObjectFields) -> bool
-        ensures { result ≡ is_contact_of self.now.base self.now.contact fields.now }
+    /// Whether it is one of the contacts of objects with some lists of contacts.
+    fn is_named(&self, lists: &ContactLists) -> bool
+        ensures { result ≡ is_named self.now.base self.now.contact lists.now }
     {
-        is_contact(self.contact, &self.groups, fields)
+        is_contact(self.contact, &self.groups, lists)
+    }
+
+    /// For each of some objects, whether it is one of their contacts. Objects with the same lists
+    /// of contacts are asked about once.
+    fn marks(&self, alloc: Global, index: ContactIndex<'_>) -> Result<Vec<bool>, Memory>
+        ensures { IfOk result (λ marks. marks.items ≡ map (λ place. slice_index_or
+            (map (is_named self.now.base self.now.contact) index.entry.lists.now) place false)
+            index.entry.places.now) }
+    {
+        let lists = self.list_marks(alloc, index.lists)?;
+        index
+            .places
+            .iter()
+            .map(|place| is_marked(&lists, *place as usize))
+            .collect(alloc)
+    }
+
+    fn list_marks(&self, alloc: Global, lists: &[ContactLists]) -> Result<Vec<bool>, Memory>
+        ensures { IfOk result (λ marks. marks.items
+            ≡ map (is_named self.now.base self.now.contact) lists.now) }
+    {
+        lists
+            .iter()
+            .map(|lists| self.is_named(lists))
+            .collect(alloc)
     }
 
     /// What the contact sees of the base. The only error is out of memory.
@@ -77,12 +104,7 @@ impl<'a> Viewer<'a> {
         ensures { IfOk result (λ seen. seen.items
             ≡ map (is_host_seen self.now.base self.now.contact) self.now.base.hosts) }
     {
-        self.base
-            .hosts
-            .as_slice()
-            .iter()
-            .map(|host| self.is_contact_of(&host.fields))
-            .collect(alloc)
+        self.marks(alloc, self.base.hosts.contact_index())
     }
 
     /// For each service, whether it is seen, by which hosts are.
@@ -92,23 +114,12 @@ impl<'a> Viewer<'a> {
         ensures { IfOk result (λ seen. seen.items
             ≡ map (is_service_seen self.now.base self.now.contact) self.now.base.services) }
     {
-        self.base
-            .services
-            .as_slice()
-            .iter()
-            .map(|service| self.sees_service(hosts, service))
-            .collect(alloc)
-    }
-
-    /// Whether a service is seen, by which hosts are.
-    #[tactic(auto, using(crate::proofs::MarkLemmas::mark_of_each))]
-    fn sees_service(&self, hosts: &[bool], service: &Service) -> bool
-        requires { hosts.now
-            ≡ map (is_host_seen self.now.base self.now.contact) self.now.base.hosts }
-        ensures { result ≡ is_service_seen self.now.base self.now.contact service.now }
-    {
-        self.is_contact_of(&service.fields)
-            || (!self.base.rules.service_strict && is_marked(hosts, service.host.0 as usize))
+        let index = self.base.services.contact_index();
+        let marks = self.marks(alloc, index)?;
+        if self.base.rules.service_strict {
+            return Ok(marks);
+        }
+        or_of_hosts(alloc, &marks, index.owners, hosts)
     }
 
     /// For each group of hosts, whether it is seen, by which hosts are.
@@ -182,13 +193,31 @@ fn groups_with(
         .collect(alloc)
 }
 
-/// Whether a contact is one of those of an object, by the marks of the contact groups that have it.
-fn is_contact(contact: Option<ContactId>, groups: &[bool], fields: &ObjectFields) -> bool
-    ensures { result ≡ (has_contact contact fields.now.contacts
-        || list_any (λ id. slice_index_or groups.now id.0 false) fields.now.contact_groups) }
+/// Whether a contact stands in lists of contacts, by the marks of the contact groups that have it.
+fn is_contact(contact: Option<ContactId>, groups: &[bool], lists: &ContactLists) -> bool
+    ensures { result ≡ (has_contact contact lists.now.contacts
+        || list_any (λ id. slice_index_or groups.now id.0 false) lists.now.contact_groups) }
 {
-    has_contact(contact, fields.contacts.as_slice())
-        || is_one_marked(groups, fields.contact_groups.as_slice())
+    has_contact(contact, lists.contacts.as_slice())
+        || is_one_marked(groups, lists.contact_groups.as_slice())
+}
+
+/// For each service, whether it is marked or its host is.
+fn or_of_hosts(
+    alloc: Global,
+    marks: &[bool],
+    owners: &[u32],
+    hosts: &[bool],
+) -> Result<Vec<bool>, Memory>
+    ensures { IfOk result (λ seen. seen.items
+        ≡ map (λ pair. pair.0 || slice_index_or hosts.now pair.1 false)
+        (zip marks.now owners.now)) }
+{
+    marks
+        .iter()
+        .zip(owners)
+        .map(|(mark, host)| *mark || is_marked(hosts, *host as usize))
+        .collect(alloc)
 }
 
 /// Whether a list of contacts has one.

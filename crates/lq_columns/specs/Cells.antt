@@ -1,5 +1,5 @@
 -- The value that each column has of a host and of a service.
-use Rattle.std.specs.Prelude.{ℕ, ℤ, pos, ◌==◌, ◌&&◌, Option, List, length, map, filter, if◌then◌else◌}
+use Rattle.std.specs.Prelude.{ℕ, ℤ, pos, ◌==◌, ◌&&◌, Bool, Option, List, [], length, map, filter, if◌then◌else◌}
 use Rattle.std.specs.List.{slice_get}
 use Rattle.std.specs.Option.{option_map, option_map_or, option_and_then}
 use Rattle.std.specs.Ordering.{int_eq}
@@ -29,6 +29,7 @@ use Rattle.lq_schema.specs.declared.columns.OwnColumn.{OwnColumn}
 use Rattle.lq_schema.specs.declared.columns.OwnColumn.TheVariants as own
 use Rattle.lq_schema.specs.Kinds.{host_kind, own_kind, service_kind}
 use Rattle.lq_schema.specs.Value.{Value, Number, Words, Texts, Numbers, empty_value}
+use Rattle.lq_log.specs.LastTold.{is_flapping, is_period_on}
 use Rattle.lq_live.specs.State.{State}
 use Rattle.lq_records.specs.Object.{is_same_object}
 use Rattle.lq_auth.specs.declared.view.View.{View}
@@ -43,6 +44,10 @@ use Rattle.lq_columns.specs.declared.service.ServiceRow.{ServiceRow}
 -- a number that is never below 0
 abbrev pub natural : ℕ → Value
 natural number = Number (pos number)
+
+-- 1 where something holds, else 0
+abbrev pub flag : Bool → Value
+flag holds = natural (if holds then 1 else 0)
 
 -- ---- what the object file says of a host or a service
 
@@ -89,6 +94,14 @@ abbrev pub comment_ids_of : State → Object → List ℕ
 comment_ids_of s about =
     map (λ comment. comment.id) (filter (λ comment. is_same_object comment.object about) s.comments)
 
+-- the name of the time period in which people are notified about an object
+abbrev pub period_of : Base → Object → List ℕ
+period_of base (object.Host id) =
+    option_map_or (λ host. host.fields.notification_period) (slice_get base.hosts id.0) []
+period_of base (object.Service id) =
+    option_map_or (λ service. service.fields.notification_period) (slice_get base.services id.0) []
+
+-- flapping and the period follow the log
 abbrev pub status_cell : State → Object → Status → StatusColumn → Value
 status_cell s about status status_column.State = Number status.state
 status_cell s about status status_column.StateType = natural status.state_type
@@ -104,7 +117,10 @@ status_cell s about status status_column.PerfData = Words status.perf_data
 status_cell s about status status_column.Acknowledged = natural status.acknowledged
 status_cell s about status status_column.AcknowledgementType = natural status.acknowledgement_type
 status_cell s about status status_column.ScheduledDowntimeDepth = natural (depth_of s about)
+status_cell s about status status_column.IsFlapping = flag (is_flapping s.base s.log about)
 status_cell s about status status_column.NotificationsEnabled = natural status.notifications_enabled
+status_cell s about status status_column.InNotificationPeriod =
+    flag (is_period_on s.log (period_of s.base about))
 status_cell s about status status_column.Comments = Numbers (comment_ids_of s about)
 status_cell s about status status_column.Downtimes = Numbers (downtime_ids_of s about)
 

@@ -35,9 +35,11 @@ IsText kind.Pairs = ⊥
 
 -- ---- columns that count nothing
 
--- the depth counts downtimes
+-- the depth counts downtimes, and flapping and the period follow the log
 abbrev pub IsHeldByStatus : StatusColumn → Type 0
 IsHeldByStatus status.ScheduledDowntimeDepth = ⊥
+IsHeldByStatus status.IsFlapping = ⊥
+IsHeldByStatus status.InNotificationPeriod = ⊥
 IsHeldByStatus column = Unit {0}
 
 -- the counters count services

@@ -1,11 +1,19 @@
 ghost use Rattle.std.specs.Prelude.{◌≡◌};
 ghost use Rattle.std.specs.Option.{IfSome, IsSome};
 ghost use Rattle.lq_schema.specs.Value.{Number, Words, empty_value, shown};
+ghost use Rattle.lq_columns.specs.Cells.{flag};
 ghost use Rattle.lq_columns.specs.Plain.{IsNumber, IsText};
 
 use lq_records::Items;
 use lq_schema::{ColKind, Val};
 use std::alloc::Global;
+
+/// 1 where something holds, else 0.
+pub fn flag(holds: bool) -> i128
+    ensures { Number result ≡ flag holds }
+{
+    if holds { 1 } else { 0 }
+}
 
 /// The value of a cell without an object, by the kind of its column: 0, an empty text or an empty
 /// list. It takes no memory.

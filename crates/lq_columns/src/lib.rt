@@ -20,7 +20,7 @@ mod status;
 
 pub use contacts::contact_named;
 pub use counters::{hosts_value, services_value};
-pub use empty::{empty_number, empty_text, empty_value};
+pub use empty::{empty_number, empty_text, empty_value, flag};
 pub use host::{HostRow, host_value};
 pub use names::{Named, names_of};
 pub use scope::Scope;

@@ -4,14 +4,16 @@ ghost use Rattle.lq_live.specs.State.{State};
 ghost use Rattle.lq_records.specs.declared.object.Object.{Object};
 ghost use Rattle.lq_schema.specs.Kinds.{status_kind};
 ghost use Rattle.lq_schema.specs.Value.{Number, Numbers, Words, shown};
-ghost use Rattle.lq_columns.specs.Cells.{comment_ids_of, downtime_ids_of, hard_state, status_cell};
+ghost use Rattle.lq_log.specs.LastTold.{is_period_on};
+ghost use Rattle.lq_columns.specs.Cells.{comment_ids_of, downtime_ids_of, hard_state, period_of, status_cell};
 ghost use Rattle.lq_columns.specs.Plain.{IsHeldByStatus, IsNumber, IsPlain, IsText};
 
+use crate::empty::flag;
 use crate::entries::{comment_ids_of, depth_of, downtime_ids_of};
 use crate::monitored::Monitored;
 use lq_events::Status;
 use lq_live::Live;
-use lq_records::{Items, Memory, Object};
+use lq_records::{Base, Items, Memory, Object};
 use lq_schema::{StatusColumn, Val};
 use std::alloc::Global;
 
@@ -85,12 +87,46 @@ impl<'a> Monitored<'a> {
             StatusColumn::ScheduledDowntimeDepth => {
                 Val::Int(depth_of(self.live, self.about) as i128)
             }
+            StatusColumn::IsFlapping => Val::Int(flag(self.live.is_flapping(self.about))),
             StatusColumn::NotificationsEnabled => {
                 Val::Int(i128::from(status.notifications_enabled))
+            }
+            StatusColumn::InNotificationPeriod => {
+                Val::Int(flag(is_in_period(self.live, self.about)))
             }
             StatusColumn::Comments => comments_value(alloc, self.live, self.about)?,
             StatusColumn::Downtimes => downtimes_value(alloc, self.live, self.about)?,
         })
+    }
+}
+
+/// Whether people are notified about an object at the present second, by its time period.
+fn is_in_period(live: &Live, about: Object) -> bool
+    ensures { result
+        ≡ is_period_on live.now.state.log (period_of live.now.state.base about) }
+{
+    live.is_period_on(period_of(live.base(), about))
+}
+
+/// The name of the time period in which people are notified about an object.
+fn period_of(base: &Base, about: Object) -> &str
+    ensures { result.now ≡ period_of base.now about }
+{
+    let fields = match about {
+        Object::Host(id) => base
+            .hosts
+            .as_slice()
+            .get(id.0 as usize)
+            .map(|host| &host.fields),
+        Object::Service(id) => base
+            .services
+            .as_slice()
+            .get(id.0 as usize)
+            .map(|service| &service.fields),
+    };
+    match fields {
+        Some(fields) => fields.notification_period.as_str(),
+        None => "",
     }
 }
 

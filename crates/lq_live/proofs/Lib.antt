@@ -17,3 +17,4 @@ pub mod Copied
 pub mod Opened
 pub mod Front
 pub mod Apply
+pub mod ToldLemmas

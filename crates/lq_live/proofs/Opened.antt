@@ -1,6 +1,7 @@
 -- The opening state keeps what every state keeps.
 use Rattle.std.proofs.Common.{◌≡◌, ◌∙◌, ◌<◌, ℕ, Option, Some, None, List, [], ◌∷◌, refl, sym, subst, ap, arith, length}
 use Rattle.std.proofs.lemmas.List.{length-map}
+use Rattle.std.specs.Arc.{arc_value}
 use Rattle.std.specs.List.{slice_get}
 use Rattle.lq_records.specs.Sound.{IsSound}
 use Rattle.lq_records.specs.declared.base.Base.{Base}
@@ -13,6 +14,7 @@ use Rattle.lq_log.specs.Told.{object_of, told_by}
 use Rattle.lq_log.specs.declared.telling.Told.{Told}
 use Rattle.lq_log.specs.declared.telling.Told.TheVariants as told
 use Rattle.lq_live.specs.Kept.{AllFrom, IsKept, KeepsAll, state_of}
+use Rattle.lq_live.specs.LastTold.{AreTold}
 use Rattle.lq_live.specs.Opening.{opened, status_told, where_told, with_line, with_lines}
 use Rattle.lq_live.specs.State.{State, all_pending, changed_at, with_status}
 use Rattle.lq_live.specs.declared.live_state.LiveState.{LiveState}
@@ -95,14 +97,15 @@ opened_kept base log below =
       ids = record { downtimes = rw beside.downtimes tt; comments = rw beside.comments tt };
     }
 
-pub opened_keeps : (base : Base) (log : List LogEntry) (live : LiveState) → state_of live ≡ opened base log → last_time log < time_limit → IsSound base → KeepsAll live 0
-opened_keeps base log live same below sound =
+pub opened_keeps : (base : Base) (log : List LogEntry) (live : LiveState) → state_of live ≡ opened base log → last_time log < time_limit → IsSound base
+    → AreTold live.told (arc_value live.base) live.log.entries → KeepsAll live 0
+opened_keeps base log live same below sound told =
     let beside = lines_beside log (all_pending base) in
     record {
       sound = subst IsSound (sym (ap (λ (s : State). s.base) same ∙ beside.base)) sound;
       state = subst IsKept (sym same) (opened_kept base log below);
       count = omega arith;
-      index = record { moment = subst (AllFrom live.next_moment) (sym (ap (λ (s : State). s.downtimes) same ∙ beside.downtimes)) tt };
+      index = record { moment = subst (AllFrom live.next_moment) (sym (ap (λ (s : State). s.downtimes) same ∙ beside.downtimes)) tt; told = told };
     }
 
 -- ---- a status found by its place

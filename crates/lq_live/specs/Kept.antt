@@ -9,6 +9,7 @@ use Rattle.lq_log.specs.Entries.{IsOfLine}
 use Rattle.lq_live.specs.State.{State}
 use Rattle.lq_live.specs.Edits.{line_in, settled}
 use Rattle.lq_live.specs.Ids.{HasRisingIds}
+use Rattle.lq_live.specs.LastTold.{AreTold}
 use Rattle.lq_live.specs.declared.live_state.LiveState.{LiveState}
 use Rattle.lq_live.specs.declared.edit.Edit.{Edit}
 
@@ -81,9 +82,11 @@ pub record IsKept (s : State) : Type 0 where
 
 -- ---- what the code keeps beside the state
 
--- what is found sooner for it: a second before which no downtime begins or ends
+-- what is found sooner for it: a second before which no downtime begins or ends, and what the log
+-- last told
 pub record IsIndexed (live : LiveState) : Type 0 where
   pub moment : AllFrom live.next_moment live.downtimes.items
+  pub told : AreTold live.told (arc_value live.base) live.log.entries
 
 -- what holds after so many updates: the base is sound, and no update is without its line
 pub record KeepsAll (live : LiveState) (updates : ℕ) : Type 0 where

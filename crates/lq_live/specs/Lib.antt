@@ -5,6 +5,7 @@ pub mod Effects
 pub mod Step
 pub mod Ids
 pub mod Always
+pub mod LastTold
 pub mod Kept
 pub mod Edits
 pub mod StepEdits

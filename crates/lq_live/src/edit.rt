@@ -56,6 +56,7 @@ pub(crate) fn make_edit(live: &mut LiveState, edit: Edit)
     match edit {
         Edit::Now(second) => move_on(live, second),
         Edit::Line(entry) => {
+            live.told.add_line(&live.base, &entry);
             let _ = live.log.add(entry);
         }
         Edit::SetStatus(Object::Host(id), status) => {

@@ -12,6 +12,7 @@ mod due;
 mod edit;
 mod effect;
 mod event;
+mod last_told;
 mod live;
 mod live_state;
 mod names;

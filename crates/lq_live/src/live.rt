@@ -6,17 +6,19 @@ ghost use Rattle.lq_live.specs.Kept.{IsIndexed, state_of};
 ghost use Rattle.lq_live.specs.Opening.{opened};
 ghost use Rattle.lq_live.specs.State.{Counted};
 ghost use Rattle.lq_log.specs.Book.{last_time};
+ghost use Rattle.lq_log.specs.LastTold.{is_flapping, is_period_on};
 ghost use Rattle.lq_records.specs.Sound.{IsSound};
 ghost use Rattle.lq_live.specs.Always.{IsCurrent, IsFront};
 ghost use Rattle.lq_live.specs.Downtimes.{IsDue, due};
 ghost use Rattle.lq_live.specs.Step.{second_after, step};
 
 use crate::edit::{play, reserve};
+use crate::last_told::LastTold;
 use crate::live_state::LiveState;
 use crate::step::step_edits;
 use lq_events::{Comment, Downtime, Status, Update};
 use lq_log::LogBook;
-use lq_records::{Base, HostId, Memory, ServiceId};
+use lq_records::{Base, HostId, Memory, Object, ServiceId};
 use std::alloc::Global;
 use std::marker::Model;
 
@@ -52,6 +54,7 @@ impl Live {
     {
         let mut state = LiveState::pending(alloc, base)?;
         state.record_lines(alloc, log.entries())?;
+        state.told = LastTold::after(alloc, &state.base, log.entries())?;
         state.present = log.last_time();
         state.log = log;
         Ok(Live {
@@ -154,6 +157,23 @@ impl Live {
         ensures count { length result.now ≡ length self.now.state.base.services }
     {
         &self.state.service_status
+    }
+
+    /// Whether an object is flapping: whether the last line of the log that tells of it says so.
+    pub fn is_flapping(&self, about: Object) -> bool
+        ensures { result ≡ is_flapping self.now.state.base self.now.state.log about }
+    {
+        let log = self.state.log.entries();
+        self.state.told.is_flapping(&self.state.base, log, about)
+    }
+
+    /// Whether the time period with a name is on: whether the last line of the log that tells of it
+    /// says so. It is on before the first one, and where the name is empty.
+    pub fn is_period_on(&self, name: &str) -> bool
+        ensures { result ≡ is_period_on self.now.state.log name.now }
+    {
+        let log = self.state.log.entries();
+        self.state.told.is_period_on(log, name)
     }
 
     /// Whether people are notified at all.

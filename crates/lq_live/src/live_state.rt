@@ -1,8 +1,12 @@
-ghost use Rattle.std.specs.Prelude.{◌≡◌, ◌++◌, ◌∷◌, ◌≤◌, [], filter, not, map, IfOk, OnOk};
+ghost use Rattle.std.specs.Prelude.{◌≡◌, ◌++◌, ◌∷◌, ◌≤◌, [], List, filter, not, map, IfOk, OnOk};
+ghost use Rattle.lq_events.specs.declared.log_entry.LogEntry.{LogEntry};
+ghost use Rattle.lq_records.specs.declared.base.Base.{Base};
+ghost use Rattle.lq_live.specs.LastTold.{AreTold};
 ghost use Rattle.lq_live.specs.Effects.{acknowledge_as};
 ghost use Rattle.lq_live.specs.Kept.{state_of};
 ghost use Rattle.lq_live.specs.State.{changed_at};
 
+use crate::last_told::LastTold;
 use lq_events::{Comment, Downtime, Status};
 use lq_log::LogBook;
 use lq_records::{Base, Memory};
@@ -26,6 +30,8 @@ pub(crate) struct LiveState {
     pub(crate) notifications: bool,
     /// No downtime begins or ends before this second.
     pub(crate) next_moment: u64,
+    /// What the log last told.
+    pub(crate) told: LastTold,
 }
 
 impl LiveState {
@@ -33,6 +39,8 @@ impl LiveState {
     pub(crate) fn copy(&self, alloc: Global) -> Result<Self, Memory>
         ensures state { IfOk result (λ copy. state_of copy ≡ state_of self.now) }
         ensures moment { IfOk result (λ copy. copy.next_moment ≡ self.now.next_moment) }
+        ensures told { IfOk result (λ copy. (base : Base) (log : List LogEntry)
+            → AreTold self.now.told base log → AreTold copy.told base log) }
     {
         Ok(LiveState {
             base: Arc::try_clone(&self.base)?,
@@ -46,6 +54,7 @@ impl LiveState {
             next_comment: self.next_comment,
             notifications: self.notifications,
             next_moment: self.next_moment,
+            told: self.told.copy(alloc)?,
         })
     }
 }

@@ -5,6 +5,7 @@ ghost use Rattle.lq_live.specs.Kept.{state_of};
 ghost use Rattle.lq_live.specs.Opening.{status_told, with_line, with_lines};
 ghost use Rattle.lq_live.specs.State.{all_pending, object_status, pending, with_status};
 
+use crate::last_told::LastTold;
 use crate::live_state::{LiveState, set_status};
 use crate::outcome::{CheckAttempt, Outcome};
 use lq_events::{LogEntry, Status};
@@ -33,6 +34,7 @@ impl LiveState {
             next_comment: 1,
             notifications: true,
             next_moment: u64::MAX,
+            told: LastTold::empty(alloc)?,
         })
     }
 

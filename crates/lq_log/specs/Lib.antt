@@ -2,6 +2,8 @@ pub mod Book
 pub mod Entries
 pub mod Fields
 pub mod Forms
+pub mod LastTold
 pub mod Log
 pub mod Told
+pub mod Types
 pub mod Written

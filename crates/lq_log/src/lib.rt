@@ -10,12 +10,14 @@ mod form;
 mod read;
 mod split;
 mod telling;
+mod types;
 mod whole;
 mod words;
 mod written;
 
 pub use book::{LogBook, TIME_LIMIT};
 pub use read::read_line;
-pub use telling::{Told, object_of, told_by};
+pub use telling::{Told, is_flapping, is_period_on, object_of, period_of, told_by};
+pub use types::{line_options, line_type};
 pub use whole::LogErr;
 pub use written::{DowntimeChange, Form, make_line};

@@ -1,4 +1,5 @@
 ghost use Rattle.std.specs.Prelude.{◌≡◌, ◌<◌, IfSome, length};
+ghost use Rattle.lq_log.specs.LastTold.{flapping_told, is_flapping, is_period_on, period_of_kind, period_told};
 ghost use Rattle.lq_log.specs.Told.{has_started, is_hard, object_named, object_of, service_in, subject_of, told_by};
 
 use lq_events::{Kind, LogEntry};
@@ -66,6 +67,60 @@ pub fn object_of(base: &Base, entry: &LogEntry) -> Option<Object>
             let service = service_in(base, host, entry.service.as_str())?;
             Some(Object::Service(service))
         }
+    }
+}
+
+/// Whether an object of a base is flapping after the lines of a log: the last line that tells of it
+/// says so.
+pub fn is_flapping(base: &Base, log: &[LogEntry], about: Object) -> bool
+    ensures { result ≡ is_flapping base.now log.now about }
+{
+    log.iter().fold(false, |known, entry| {
+        flapping_told(base, about, entry).unwrap_or(known)
+    })
+}
+
+/// What a line tells of an object's flapping.
+fn flapping_told(base: &Base, about: Object, entry: &LogEntry) -> Option<bool>
+    ensures { result ≡ flapping_told base.now about entry.now }
+{
+    let Some(Told::Flapping { on }) = told_by(entry) else {
+        return None;
+    };
+    match object_of(base, entry) {
+        Some(found) if about.is_same(found) => Some(on),
+        _ => None,
+    }
+}
+
+/// Whether the time period with a name is on after the lines of a log: the last line that tells of
+/// it says so. It is on before the first such line, and where the name is empty.
+pub fn is_period_on(log: &[LogEntry], name: &str) -> bool
+    ensures { result ≡ is_period_on log.now name.now }
+{
+    log.iter().fold(
+        true,
+        |known, entry| period_told(name, entry).unwrap_or(known),
+    )
+}
+
+/// What a line tells of the period with a name.
+fn period_told(name: &str, entry: &LogEntry) -> Option<bool>
+    ensures { result ≡ period_told name.now entry.now }
+{
+    match told_by(entry) {
+        Some(Told::Period { on }) if !name.is_empty() && name == period_of(entry) => Some(on),
+        _ => None,
+    }
+}
+
+/// The name of the time period that goes over by a line, empty for a line of another form.
+pub fn period_of(entry: &LogEntry) -> &str
+    ensures { result.now ≡ period_of_kind entry.now.kind }
+{
+    match &entry.kind {
+        Kind::TimeperiodTransition { name, .. } => name.as_str(),
+        _ => "",
     }
 }
 

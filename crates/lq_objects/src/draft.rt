@@ -4,8 +4,8 @@ ghost use Rattle.lq_objects.specs.Objects.{objects_of};
 
 use crate::kind::Kind;
 use lq_records::{
-    Base, Command, Contact, ContactGroup, Host, HostGroup, Items, NamedItems, Period, Rules,
-    Service, ServiceGroup,
+    Base, Command, Contact, ContactGroup, Host, HostGroup, Items, MonitoredItems, NamedItems,
+    Period, Rules, Service, ServiceGroup,
 };
 use std::alloc::{AllocError, Global};
 
@@ -48,8 +48,8 @@ impl Draft {
         ensures { IfOk result (λ base. base ≡ drafted self) }
     {
         Ok(Base {
-            hosts: NamedItems::from_vec(alloc, self.hosts.into_vec())?,
-            services: NamedItems::from_vec(alloc, self.services.into_vec())?,
+            hosts: MonitoredItems::from_vec(alloc, self.hosts.into_vec())?,
+            services: MonitoredItems::from_vec(alloc, self.services.into_vec())?,
             host_groups: NamedItems::from_vec(alloc, self.host_groups.into_vec())?,
             service_groups: NamedItems::from_vec(alloc, self.service_groups.into_vec())?,
             contacts: NamedItems::from_vec(alloc, self.contacts.into_vec())?,

@@ -32,6 +32,7 @@ like_agrees user s t agree = record {
   services = agree.services;
   downtimes = agree.downtimes;
   comments = agree.comments;
+  lines = agree.lines;
 }
 
 like_rises : (s t : State) → HasRisingIds t → HasRisingIds (like s t)

@@ -5,3 +5,4 @@ pub mod KeptLemmas
 pub mod ShownLemmas
 pub mod SeenRowLemmas
 pub mod IsolationLemmas
+pub mod ToldLemmas

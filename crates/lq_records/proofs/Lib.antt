@@ -1,2 +1,3 @@
 pub mod CleanLemmas
+pub mod ContactLemmas
 pub mod KeyLemmas

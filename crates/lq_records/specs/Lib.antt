@@ -1,4 +1,5 @@
 pub mod Clean
+pub mod Contacts
 pub mod Formats
 pub mod Micros
 pub mod Object

@@ -2,6 +2,7 @@ ghost use Rattle.std.specs.Prelude.{◌≡◌, true, false};
 
 use crate::ids::{ContactGroupId, ContactId, HostId, ServiceId};
 use crate::items::Items;
+use crate::monitored::MonitoredItems;
 use crate::named::{NamedItems, NamedObject};
 use crate::text::Text;
 
@@ -240,9 +241,9 @@ impl Default for Rules {
 #[derive(Drop)]
 pub struct Base {
     /// At most 10,000.
-    pub hosts: NamedItems<Host>,
+    pub hosts: MonitoredItems<Host>,
     /// At most 60,000.
-    pub services: NamedItems<Service>,
+    pub services: MonitoredItems<Service>,
     /// At most 1,000.
     pub host_groups: NamedItems<HostGroup>,
     /// At most 1,000.

@@ -42,7 +42,7 @@ pub struct HostGroupId(pub u32);
 pub struct ServiceGroupId(pub u32);
 
 /// The place of a contact in a base's list of contacts.
-#[derive(Clone, Copy)]
+#[derive(Clone, Copy, PartialEq)]
 pub struct ContactId(pub u32);
 
 impl Id for ContactId {
@@ -54,7 +54,7 @@ impl Id for ContactId {
 }
 
 /// The place of a contact group in a base's list of contact groups.
-#[derive(Clone, Copy)]
+#[derive(Clone, Copy, PartialEq)]
 pub struct ContactGroupId(pub u32);
 
 impl Id for ContactGroupId {

@@ -8,6 +8,7 @@ mod format;
 mod ids;
 mod items;
 mod micro;
+mod monitored;
 mod name_key;
 mod named;
 mod object;
@@ -26,6 +27,7 @@ pub use ids::{
 };
 pub use items::Items;
 pub use micro::Micro;
+pub use monitored::{ContactIndex, ContactLists, MonitoredItems, MonitoredObject};
 pub use named::{NamedItems, NamedObject};
 pub use object::{Object, ObjectKind};
 pub use refusal::Refusal;

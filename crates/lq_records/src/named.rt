@@ -90,7 +90,7 @@ impl<T: NamedObject> NamedItems<T> {
     }
 
     /// The first place of an item with an owner and a name. None where no item has them.
-    fn place_of(&self, owner: u32, name: &str) -> Option<u32>
+    pub fn place_of(&self, owner: u32, name: &str) -> Option<u32>
         ensures value { result ≡ position
             (λ item. T.owner_of item == owner && bytes_eq (T.name_of item) name.now) self.now }
         ensures within { IfSome result (λ place. place < length self.now) }

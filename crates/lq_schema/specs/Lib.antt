@@ -8,6 +8,7 @@ pub mod Host
 pub mod HostCounter
 pub mod HostGroup
 pub mod Kinds
+pub mod Line
 pub mod Names
 pub mod Object
 pub mod Order

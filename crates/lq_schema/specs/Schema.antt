@@ -19,7 +19,7 @@ abbrev pub tables : List Table
 tables =
     table.Hosts ∷ table.Services ∷ table.HostGroups ∷ table.ServiceGroups ∷ table.Contacts
     ∷ table.ContactGroups ∷ table.Commands ∷ table.TimePeriods ∷ table.Downtimes ∷ table.Comments
-    ∷ table.Status ∷ table.Columns ∷ table.HostsByGroup ∷ table.ServicesByGroup
+    ∷ table.Log ∷ table.Status ∷ table.Columns ∷ table.HostsByGroup ∷ table.ServicesByGroup
     ∷ table.ServicesByHostGroup ∷ []
 
 -- the table that has a name
@@ -38,6 +38,7 @@ subject_of table.Commands = subject.Command
 subject_of table.TimePeriods = subject.Period
 subject_of table.Downtimes = subject.Downtime
 subject_of table.Comments = subject.Comment
+subject_of table.Log = subject.Line
 subject_of table.Status = subject.Program
 subject_of table.Columns = subject.Schema
 subject_of table.HostsByGroup = subject.Host
@@ -61,6 +62,8 @@ joined_of table.Downtimes =
     part prefix.Host subject.Host ∷ part prefix.Service subject.Service ∷ []
 joined_of table.Comments =
     part prefix.Host subject.Host ∷ part prefix.Service subject.Service ∷ []
+joined_of table.Log =
+    part prefix.CurrentHost subject.Host ∷ part prefix.CurrentService subject.Service ∷ []
 joined_of table.Status = []
 joined_of table.Columns = []
 joined_of table.HostsByGroup = part prefix.HostGroup subject.HostGroup ∷ []

@@ -20,7 +20,9 @@ status_heading status.PerfData = heading (codes "perf_data") kind.Str
 status_heading status.Acknowledged = heading (codes "acknowledged") kind.Int
 status_heading status.AcknowledgementType = heading (codes "acknowledgement_type") kind.Int
 status_heading status.ScheduledDowntimeDepth = heading (codes "scheduled_downtime_depth") kind.Int
+status_heading status.IsFlapping = heading (codes "is_flapping") kind.Int
 status_heading status.NotificationsEnabled = heading (codes "notifications_enabled") kind.Int
+status_heading status.InNotificationPeriod = heading (codes "in_notification_period") kind.Int
 status_heading status.Comments = heading (codes "comments") kind.Nums
 status_heading status.Downtimes = heading (codes "downtimes") kind.Nums
 
@@ -30,5 +32,6 @@ status_columns =
     status.State ∷ status.StateType ∷ status.HardState ∷ status.LastHardState
     ∷ status.HasBeenChecked ∷ status.CurrentAttempt ∷ status.LastCheck ∷ status.LastStateChange
     ∷ status.LastHardStateChange ∷ status.PluginOutput ∷ status.PerfData ∷ status.Acknowledged
-    ∷ status.AcknowledgementType ∷ status.ScheduledDowntimeDepth ∷ status.NotificationsEnabled
-    ∷ status.Comments ∷ status.Downtimes ∷ []
+    ∷ status.AcknowledgementType ∷ status.ScheduledDowntimeDepth ∷ status.IsFlapping
+    ∷ status.NotificationsEnabled ∷ status.InNotificationPeriod ∷ status.Comments
+    ∷ status.Downtimes ∷ []

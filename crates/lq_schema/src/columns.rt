@@ -13,6 +13,7 @@ use crate::downtime::DowntimeColumn;
 use crate::heading::Heading;
 use crate::host::HostColumn;
 use crate::host_group::HostGroupColumn;
+use crate::line::LineColumn;
 use crate::period::PeriodColumn;
 use crate::program::ProgramColumn;
 use crate::schema_column::SchemaColumn;
@@ -42,6 +43,8 @@ pub enum Table {
     Downtimes,
     /// `comments`, with a row for each comment.
     Comments,
+    /// `log`, with a row for each line of the log that begins with a second in brackets.
+    Log,
     /// `status`, with the one row of the program.
     Status,
     /// `columns`, with a row for each column of each table.
@@ -67,6 +70,7 @@ pub enum Subject {
     Period,
     Downtime,
     Comment,
+    Line,
     Program,
     Schema,
 }
@@ -84,6 +88,7 @@ pub enum OwnColumn {
     Period(PeriodColumn),
     Downtime(DowntimeColumn),
     Comment(CommentColumn),
+    Line(LineColumn),
     Program(ProgramColumn),
     Schema(SchemaColumn),
 }
@@ -101,6 +106,12 @@ pub enum Prefix {
     HostGroup,
     /// `servicegroup_`, the columns of the group of services that a row is about.
     ServiceGroup,
+    /// `current_host_`, the columns of the host that a line of the log is about, or whose service
+    /// it is about, as they are now.
+    CurrentHost,
+    /// `current_service_`, the columns of the service that a line of the log is about, as they are
+    /// now.
+    CurrentService,
 }
 
 /// Columns of a table that belong together: all columns of a subject, after a prefix.
@@ -158,6 +169,7 @@ impl OwnColumn {
             OwnColumn::Period(column) => column.heading(),
             OwnColumn::Downtime(column) => column.heading(),
             OwnColumn::Comment(column) => column.heading(),
+            OwnColumn::Line(column) => column.heading(),
             OwnColumn::Program(column) => column.heading(),
             OwnColumn::Schema(column) => column.heading(),
         }
@@ -192,6 +204,8 @@ impl Prefix {
             Prefix::Service => "service_",
             Prefix::HostGroup => "hostgroup_",
             Prefix::ServiceGroup => "servicegroup_",
+            Prefix::CurrentHost => "current_host_",
+            Prefix::CurrentService => "current_service_",
         }
     }
 }
@@ -212,6 +226,7 @@ impl Subject {
             Subject::Period => "timeperiod_",
             Subject::Downtime => "downtime_",
             Subject::Comment => "comment_",
+            Subject::Line => "log_",
             Subject::Program => "status_",
             Subject::Schema => "column_",
         }
@@ -233,6 +248,7 @@ impl Subject {
             Subject::Period => PeriodColumn::ORDER.len(),
             Subject::Downtime => DowntimeColumn::ORDER.len(),
             Subject::Comment => CommentColumn::ORDER.len(),
+            Subject::Line => LineColumn::ORDER.len(),
             Subject::Program => ProgramColumn::ORDER.len(),
             Subject::Schema => SchemaColumn::ORDER.len(),
         }
@@ -254,6 +270,7 @@ impl Subject {
             Subject::Period => OwnColumn::Period(PeriodColumn::ORDER[i]),
             Subject::Downtime => OwnColumn::Downtime(DowntimeColumn::ORDER[i]),
             Subject::Comment => OwnColumn::Comment(CommentColumn::ORDER[i]),
+            Subject::Line => OwnColumn::Line(LineColumn::ORDER[i]),
             Subject::Program => OwnColumn::Program(ProgramColumn::ORDER[i]),
             Subject::Schema => OwnColumn::Schema(SchemaColumn::ORDER[i]),
         }

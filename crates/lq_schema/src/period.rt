@@ -9,11 +9,12 @@ use crate::heading::Heading;
 pub enum PeriodColumn {
     Name,
     Alias,
+    In,
 }
 
 impl PeriodColumn {
     /// The columns, in order.
-    pub(crate) const ORDER: [Self; 2] = [Self::Name, Self::Alias];
+    pub(crate) const ORDER: [Self; 3] = [Self::Name, Self::Alias, Self::In];
 
     /// The name of the column, and the kind of its values.
     pub(crate) fn heading(self) -> Heading
@@ -22,6 +23,7 @@ impl PeriodColumn {
         match self {
             Self::Name => Heading::new("name", ColKind::Str),
             Self::Alias => Heading::new("alias", ColKind::Str),
+            Self::In => Heading::new("in", ColKind::Int),
         }
     }
 }

@@ -129,7 +129,7 @@ fn without_prefix<'a>(name: &'a str, front: &str) -> Option<&'a str>
     name.strip_prefix(front)
 }
 
-const TABLES: [Table; 15] = [
+const TABLES: [Table; 16] = [
     Table::Hosts,
     Table::Services,
     Table::HostGroups,
@@ -140,6 +140,7 @@ const TABLES: [Table; 15] = [
     Table::TimePeriods,
     Table::Downtimes,
     Table::Comments,
+    Table::Log,
     Table::Status,
     Table::Columns,
     Table::HostsByGroup,
@@ -167,6 +168,16 @@ const SERVICE_GROUP: Part = Part {
     subject: Subject::ServiceGroup,
 };
 
+const CURRENT_HOST: Part = Part {
+    prefix: Prefix::CurrentHost,
+    subject: Subject::Host,
+};
+
+const CURRENT_SERVICE: Part = Part {
+    prefix: Prefix::CurrentService,
+    subject: Subject::Service,
+};
+
 impl Table {
     /// The name by which a query asks for it.
     pub fn name(self) -> &'static str
@@ -183,6 +194,7 @@ impl Table {
             Table::TimePeriods => "timeperiods",
             Table::Downtimes => "downtimes",
             Table::Comments => "comments",
+            Table::Log => "log",
             Table::Status => "status",
             Table::Columns => "columns",
             Table::HostsByGroup => "hostsbygroup",
@@ -207,6 +219,7 @@ impl Table {
             Table::TimePeriods => Subject::Period,
             Table::Downtimes => Subject::Downtime,
             Table::Comments => Subject::Comment,
+            Table::Log => Subject::Line,
             Table::Status => Subject::Program,
             Table::Columns => Subject::Schema,
         }
@@ -220,6 +233,7 @@ impl Table {
         match self {
             Table::Services => &[HOST],
             Table::Downtimes | Table::Comments => &[HOST, SERVICE],
+            Table::Log => &[CURRENT_HOST, CURRENT_SERVICE],
             Table::HostsByGroup => &[HOST_GROUP],
             Table::ServicesByGroup => &[HOST, SERVICE_GROUP],
             Table::ServicesByHostGroup => &[HOST, HOST_GROUP],

@@ -21,14 +21,16 @@ pub enum StatusColumn {
     Acknowledged,
     AcknowledgementType,
     ScheduledDowntimeDepth,
+    IsFlapping,
     NotificationsEnabled,
+    InNotificationPeriod,
     Comments,
     Downtimes,
 }
 
 impl StatusColumn {
     /// The columns, in order.
-    pub(crate) const ORDER: [Self; 17] = [
+    pub(crate) const ORDER: [Self; 19] = [
         Self::State,
         Self::StateType,
         Self::HardState,
@@ -43,7 +45,9 @@ impl StatusColumn {
         Self::Acknowledged,
         Self::AcknowledgementType,
         Self::ScheduledDowntimeDepth,
+        Self::IsFlapping,
         Self::NotificationsEnabled,
+        Self::InNotificationPeriod,
         Self::Comments,
         Self::Downtimes,
     ];
@@ -67,7 +71,9 @@ impl StatusColumn {
             Self::Acknowledged => Heading::new("acknowledged", ColKind::Int),
             Self::AcknowledgementType => Heading::new("acknowledgement_type", ColKind::Int),
             Self::ScheduledDowntimeDepth => Heading::new("scheduled_downtime_depth", ColKind::Int),
+            Self::IsFlapping => Heading::new("is_flapping", ColKind::Int),
             Self::NotificationsEnabled => Heading::new("notifications_enabled", ColKind::Int),
+            Self::InNotificationPeriod => Heading::new("in_notification_period", ColKind::Int),
             Self::Comments => Heading::new("comments", ColKind::Nums),
             Self::Downtimes => Heading::new("downtimes", ColKind::Nums),
         }

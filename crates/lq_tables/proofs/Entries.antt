@@ -24,6 +24,7 @@ few table.Commands = lit≤ tt
 few table.TimePeriods = lit≤ tt
 few table.Downtimes = lit≤ tt
 few table.Comments = lit≤ tt
+few table.Log = lit≤ tt
 few table.Status = lit≤ tt
 few table.Columns = lit≤ tt
 few table.HostsByGroup = lit≤ tt

@@ -1,6 +1,6 @@
--- The only one with an id, in a list whose ids rise.
+-- The only one with an id, in a list whose ids rise, and the one at a place.
 use Rattle.std.proofs.Common.{◌≡◌, ◌≢◌, ℕ, zero, suc, ◌+◌, ◌<◌, ◌≤◌, ◌==◌, Bool, true, false, Option, Some, None, Result, Ok, Err, MatchResult, Equal, List, [], ◌∷◌, length, map, filter, get_or, slice_get, refl, sym, ap, subst, arith, ◌∙◌, if◌then◌else◌}
-use Rattle.std.specs.List.{find}
+use Rattle.std.specs.List.{find, range_with_len}
 use Rattle.std.specs.List.Sorted.{IsBinarySearchResult, IsNonDecreasingBy, IsSearchInRange}
 use Rattle.std.specs.Option.{option_map, option_map_or}
 use Rattle.std.specs.Ordering.{nat_cmp, ordering_index}
@@ -10,18 +10,20 @@ use Rattle.std.proofs.lemmas.Cmp.{ranked}
 use Rattle.std.proofs.lemmas.Option.{slice_get-get_or}
 use Rattle.lq_schema.specs.declared.columns.Table.{Table}
 use Rattle.lq_schema.specs.declared.columns.Table.TheVariants as table
+use Rattle.lq_events.specs.declared.log_entry.LogEntry.{LogEntry}
 use Rattle.lq_events.specs.declared.status.Comment.{Comment}
 use Rattle.lq_events.specs.declared.status.Downtime.{Downtime}
 use Rattle.lq_live.specs.Ids.{HasRisingIds, IdsRise, comment_id, downtime_id}
 use Rattle.lq_live.specs.State.{State}
+use Rattle.lq_records.specs.declared.base.Base.{Base}
 use Rattle.lq_records.specs.declared.object.Object.{Object}
 use Rattle.lq_records.specs.declared.object.Object.TheVariants as object
 use Rattle.lq_auth.specs.declared.view.View.{View}
 use Rattle.lq_auth.specs.declared.view.View.TheVariants as view
-use Rattle.lq_tables.specs.About.{row_comment, row_downtime, row_object}
+use Rattle.lq_tables.specs.About.{row_comment, row_downtime, row_line, row_object}
 use Rattle.lq_tables.specs.Own.{HasIdsRising, IsOwn, row_id}
 use Rattle.lq_auth.specs.Rights.{sees_object}
-use Rattle.lq_tables.specs.Rows.{rows_of, sees_row}
+use Rattle.lq_tables.specs.Rows.{rows_of, sees_entry, sees_row}
 use Rattle.lq_tables.specs.declared.row.Row.{Row}
 use Rattle.lq_tables.specs.declared.row.Row.TheVariants as row
 
@@ -53,6 +55,19 @@ kept_from id about row seen is_seen least next whole (item ∷ items) rise finds
     (λ sought more. same sought (omega (arith, more, rise.0))
     ∙ found_first id sought item items false (ne_eqb (id item) sought (λ equal. omega (arith, more, equal)))) agree)
 
+-- rows by place, from a place on
+placed_from : {A B : Type 0} (about : B → Option A) (row : ℕ → B) (seen : B → Bool) (is_seen : A → Bool) (whole items : List A) (n : ℕ)
+    → ((k : ℕ) → slice_get whole (n + k) ≡ slice_get items k) → ((place : ℕ) → about (row place) ≡ slice_get whole place)
+    → ((place : ℕ) (item : A) → about (row place) ≡ Some item → seen (row place) ≡ is_seen item)
+    → map about (filter seen (map row (range_with_len n (length items)))) ≡ map Some (filter is_seen items)
+placed_from about row seen is_seen whole [] n same finds agree = refl
+placed_from about row seen is_seen whole (item ∷ items) n same finds agree =
+    let at_n : n ≡ n + 0 = omega arith in
+    let here : about (row n) ≡ Some item = finds n ∙ ap (slice_get whole) at_n ∙ same 0 in
+    kept_first about seen is_seen (row n) item (map row (range_with_len (n + 1) (length items))) items (is_seen item) (agree n item here) refl here
+    (placed_from about row seen is_seen whole items (n + 1)
+    (λ k. let later : n + 1 + k ≡ n + suc k = omega arith in ap (slice_get whole) later ∙ same (suc k)) finds agree)
+
 pub own_of : (s : State) (view : View) (t : Table) (rows : List Row) → HasRisingIds s → rows ≡ rows_of s view t → IsOwn s view t rows
 own_of s view table.Downtimes rows has made =
     ap (map (row_downtime s)) made
@@ -64,6 +79,11 @@ own_of s view table.Comments rows has made =
     ∙ kept_from comment_id (row_comment s) (λ comment. row.Comment comment.id) (sees_row s view) (λ comment. sees_object view comment.object)
     0 s.next_comment s.comments s.comments has.comments (λ item. refl) (λ sought more. refl)
     (λ item here. ap (λ (found : Option Comment). option_map_or (sees_object view) (option_map (λ comment. comment.object) found) true) here)
+own_of s view table.Log rows has made =
+    ap (map (row_line s)) made
+    ∙ placed_from (row_line s) row.Line (sees_row s view) (sees_entry s.base view) s.log s.log 0
+    (λ k. let from_start : 0 + k ≡ k = omega arith in ap (slice_get s.log) from_start) (λ place. refl)
+    (λ place entry here. ap (λ (found : Option LogEntry). option_map_or (sees_entry s.base view) found true) here)
 own_of s view _ rows has made = tt
 
 -- what a state says of its lists is so of lists that are the same
@@ -113,6 +133,10 @@ object_seen_by_all None = refl
 object_seen_by_all (Some (object.Host id)) = refl
 object_seen_by_all (Some (object.Service id)) = refl
 
+entry_seen_by_all : (base : Base) (found : Option LogEntry) → option_map_or (sees_entry base view.All) found true ≡ true
+entry_seen_by_all base None = refl
+entry_seen_by_all base (Some entry) = refl
+
 seen_by_all : (s : State) (row : Row) → sees_row s view.All row ≡ true
 seen_by_all s (row.Host id) = refl
 seen_by_all s (row.Service id) = refl
@@ -123,6 +147,7 @@ seen_by_all s (row.ServiceOf group id) = refl
 seen_by_all s (row.GroupService group id) = refl
 seen_by_all s (row.Downtime id) = object_seen_by_all (row_object s (row.Downtime id))
 seen_by_all s (row.Comment id) = object_seen_by_all (row_object s (row.Comment id))
+seen_by_all s (row.Line place) = entry_seen_by_all s.base (row_line s (row.Line place))
 seen_by_all s _ = refl
 
 kept_all_first : {A : Type 0} (keeps : A → Bool) (item : A) (items : List A) → keeps item ≡ true → filter keeps items ≡ items → filter keeps (item ∷ items) ≡ item ∷ items

@@ -9,10 +9,12 @@ use Rattle.lq_records.specs.declared.base.ContactGroup.{ContactGroup}
 use Rattle.lq_records.specs.declared.base.Period.{Period}
 use Rattle.lq_records.specs.declared.ids.HostGroupId.{HostGroupId}
 use Rattle.lq_records.specs.declared.ids.ServiceGroupId.{ServiceGroupId}
+use Rattle.lq_events.specs.declared.log_entry.LogEntry.{LogEntry}
 use Rattle.lq_events.specs.declared.status.Comment.{Comment}
 use Rattle.lq_events.specs.declared.status.Downtime.{Downtime}
 use Rattle.lq_records.specs.declared.object.Object.{Object}
 use Rattle.lq_records.specs.declared.object.Object.TheVariants as object
+use Rattle.lq_log.specs.Told.{object_of}
 use Rattle.lq_live.specs.State.{State}
 use Rattle.lq_columns.specs.Cells.{HostRecord, ServiceRecord, host_at, service_at}
 use Rattle.lq_tables.specs.Schema.{schema}
@@ -38,9 +40,17 @@ abbrev pub row_comment : State → Row → Option Comment
 row_comment s (row.Comment id) = comment_with id s.comments
 row_comment s row = None
 
+-- ---- lines of the log
+
+-- the line at a place of the log
+abbrev pub row_line : State → Row → Option LogEntry
+row_line s (row.Line place) = slice_get s.log place
+row_line s row = None
+
 -- ---- hosts and services
 
--- the host or service that a row is about; a downtime and a comment are about that of their own
+-- the host or service that a row is about; a downtime and a comment are about that of their own, a
+-- line of the log about the one that it names, where the base has it
 abbrev pub row_object : State → Row → Option Object
 row_object s (row.Host id) = Some (object.Host id)
 row_object s (row.HostOf group id) = Some (object.Host id)
@@ -50,6 +60,7 @@ row_object s (row.GroupService group id) = Some (object.Service id)
 row_object s (row.Downtime id) =
     option_map (λ downtime. downtime.object) (downtime_with id s.downtimes)
 row_object s (row.Comment id) = option_map (λ comment. comment.object) (comment_with id s.comments)
+row_object s (row.Line place) = option_and_then (object_of s.base) (slice_get s.log place)
 row_object s row = None
 
 -- the service itself
@@ -81,15 +92,21 @@ abbrev pub IsService : State → Row → Type 0
 IsService s (row.Service id) = IsSome (service_at s id)
 IsService s row = ⊥
 
--- a host, a service, a downtime and a comment are those that a row is about, None where it is about
--- no such thing
-pub record IsAbout (s : State) (row : Row) (host : Option HostRecord)
-    (service : Option ServiceRecord) (downtime : Option Downtime) (comment : Option Comment)
-    : Type 0 where
-  pub host_found : host ≡ row_host s row
-  pub service_found : service ≡ row_service s row
-  pub downtime_found : downtime ≡ row_downtime s row
-  pub comment_found : comment ≡ row_comment s row
+-- a host, a service, a downtime, a comment and a line of the log
+pub record Subjects : Type 0 where
+  pub host : Option HostRecord
+  pub service : Option ServiceRecord
+  pub downtime : Option Downtime
+  pub comment : Option Comment
+  pub line : Option LogEntry
+
+-- subjects are those that a row is about, None where it is about no such thing
+pub record IsAbout (s : State) (row : Row) (subjects : Subjects) : Type 0 where
+  pub host_found : subjects.host ≡ row_host s row
+  pub service_found : subjects.service ≡ row_service s row
+  pub downtime_found : subjects.downtime ≡ row_downtime s row
+  pub comment_found : subjects.comment ≡ row_comment s row
+  pub line_found : subjects.line ≡ row_line s row
 
 -- ---- the rest of the base
 

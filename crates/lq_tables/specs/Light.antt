@@ -12,13 +12,15 @@ IsLight (own.Schema schema.Name) = ⊥
 IsLight (own.Schema schema.Description) = ⊥
 IsLight column = IsPlain (own_kind column)
 
--- numbers that are found without a look at other objects: all but counters, and how many downtimes
--- hold
+-- numbers that are found without a look at other objects: all but counters, how many downtimes
+-- hold, and what the log tells of a host or a service
 abbrev pub IsHeld : OwnColumn → Type 0
 IsHeld (own.Host column) = IsHeldByHost column
 IsHeld (own.Service column) = IsHeldByService column
+IsHeld (own.Period column) = Unit {0}
 IsHeld (own.Downtime column) = Unit {0}
 IsHeld (own.Comment column) = Unit {0}
+IsHeld (own.Line column) = Unit {0}
 IsHeld (own.Program column) = Unit {0}
 IsHeld column = ⊥
 

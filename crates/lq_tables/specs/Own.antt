@@ -1,4 +1,5 @@
--- The rows of downtimes and comments, each about its own, and their ids.
+-- The rows of downtimes, comments and lines of the log, each about its own, and the ids of the
+-- first two.
 use Rattle.std.specs.Prelude.{◌≡◌, ℕ, Some, List, map, filter}
 use Rattle.lq_schema.specs.declared.columns.Table.{Table}
 use Rattle.lq_schema.specs.declared.columns.Table.TheVariants as table
@@ -6,12 +7,13 @@ use Rattle.lq_live.specs.Ids.{IdsRise}
 use Rattle.lq_live.specs.State.{State}
 use Rattle.lq_auth.specs.Rights.{sees_object}
 use Rattle.lq_auth.specs.declared.view.View.{View}
-use Rattle.lq_tables.specs.About.{row_comment, row_downtime}
+use Rattle.lq_tables.specs.About.{row_comment, row_downtime, row_line}
+use Rattle.lq_tables.specs.Rows.{sees_entry}
 use Rattle.lq_tables.specs.declared.row.Row.{Row}
 use Rattle.lq_tables.specs.declared.row.Row.TheVariants as row
 
 -- the rows of the downtimes are about those that are seen, one after the other, and those of the
--- comments likewise
+-- comments and of the log likewise
 abbrev pub IsOwn : State → View → Table → List Row → Type 0
 IsOwn s view table.Downtimes rows =
     map (row_downtime s) rows
@@ -19,6 +21,8 @@ IsOwn s view table.Downtimes rows =
 IsOwn s view table.Comments rows =
     map (row_comment s) rows
     ≡ map Some (filter (λ comment. sees_object view comment.object) s.comments)
+IsOwn s view table.Log rows =
+    map (row_line s) rows ≡ map Some (filter (sees_entry s.base view) s.log)
 IsOwn s view table rows = Unit {0}
 
 -- the id of the downtime or of the comment that a row names

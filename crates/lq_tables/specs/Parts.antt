@@ -1,5 +1,5 @@
--- The values of the columns on contacts, commands, time periods, downtimes, comments, the program
--- and the schema.
+-- The values of the columns on contacts, commands, time periods, downtimes, comments, lines of the
+-- log, the program and the schema.
 use Rattle.std.specs.Prelude.{ℕ, pos, Bool, Option, Some, None, List, length, codes, if◌then◌else◌}
 use Rattle.std.specs.List.{slice_get}
 use Rattle.std.specs.Option.{option_map, option_and_then}
@@ -18,6 +18,8 @@ use Rattle.lq_schema.specs.declared.contact.ContactColumn.{ContactColumn}
 use Rattle.lq_schema.specs.declared.contact.ContactColumn.TheVariants as contact
 use Rattle.lq_schema.specs.declared.downtime.DowntimeColumn.{DowntimeColumn}
 use Rattle.lq_schema.specs.declared.downtime.DowntimeColumn.TheVariants as downtime
+use Rattle.lq_schema.specs.declared.line.LineColumn.{LineColumn}
+use Rattle.lq_schema.specs.declared.line.LineColumn.TheVariants as line
 use Rattle.lq_schema.specs.declared.period.PeriodColumn.{PeriodColumn}
 use Rattle.lq_schema.specs.declared.period.PeriodColumn.TheVariants as period
 use Rattle.lq_schema.specs.declared.program.ProgramColumn.{ProgramColumn}
@@ -25,23 +27,22 @@ use Rattle.lq_schema.specs.declared.program.ProgramColumn.TheVariants as program
 use Rattle.lq_schema.specs.declared.schema_column.SchemaColumn.{SchemaColumn}
 use Rattle.lq_schema.specs.declared.schema_column.SchemaColumn.TheVariants as schema
 use Rattle.lq_records.specs.declared.ids.ServiceId.{ServiceId}
+use Rattle.lq_events.specs.declared.log_entry.LogEntry.{LogEntry}
 use Rattle.lq_events.specs.declared.status.Comment.{Comment}
 use Rattle.lq_events.specs.declared.status.Downtime.{Downtime}
-use Rattle.lq_schema.specs.Kinds.{command_kind, comment_kind, contact_kind, downtime_kind, own_kind, period_kind, program_kind, schema_kind}
+use Rattle.lq_schema.specs.Kinds.{command_kind, comment_kind, contact_kind, downtime_kind, line_kind, own_kind, period_kind, program_kind, schema_kind}
 use Rattle.lq_schema.specs.Names.{full_name, table_name}
 use Rattle.lq_schema.specs.Value.{Value, Number, Words, empty_value}
+use Rattle.lq_log.specs.LastTold.{is_period_on}
+use Rattle.lq_log.specs.Types.{line_options, line_type}
 use Rattle.lq_live.specs.State.{State}
-use Rattle.lq_columns.specs.Cells.{natural}
+use Rattle.lq_columns.specs.Cells.{flag, natural}
 use Rattle.lq_records.specs.Object.{is_same_kind, kind_of}
 use Rattle.lq_records.specs.declared.object.Object.{Object}
 use Rattle.lq_records.specs.declared.object.ObjectKind.TheVariants as object_kind
 use Rattle.lq_tables.specs.declared.row.Row.{Row}
 use Rattle.lq_tables.specs.declared.row.Row.TheVariants as row
 use Rattle.lq_tables.specs.declared.schema.Entry.{Entry}
-
--- 1 where something holds, else 0
-abbrev pub flag : Bool → Value
-flag holds = Number (pos (if holds then 1 else 0))
 
 -- 1 for a service, 0 for a host
 abbrev pub service_flag : Object → Value
@@ -63,10 +64,12 @@ command_cell None column = empty_value (command_kind column)
 command_cell (Some item) command.Name = Words item.command_name
 command_cell (Some item) command.Line = Words item.command_line
 
-abbrev pub period_cell : Option Period → PeriodColumn → Value
-period_cell None column = empty_value (period_kind column)
-period_cell (Some item) period.Name = Words item.timeperiod_name
-period_cell (Some item) period.Alias = Words item.alias
+-- whether a period is on follows the log
+abbrev pub period_cell : State → Option Period → PeriodColumn → Value
+period_cell s None column = empty_value (period_kind column)
+period_cell s (Some item) period.Name = Words item.timeperiod_name
+period_cell s (Some item) period.Alias = Words item.alias
+period_cell s (Some item) period.In = flag (is_period_on s.log item.timeperiod_name)
 
 -- ---- downtimes and comments
 
@@ -93,6 +96,25 @@ comment_cell (Some item) comment.EntryTime = natural item.time
 comment_cell (Some item) comment.EntryType = natural item.entry_type
 comment_cell (Some item) comment.Persistent = natural item.persistent
 comment_cell (Some item) comment.IsService = service_flag item.object
+
+-- ---- lines of the log
+
+abbrev pub line_cell : Option LogEntry → LineColumn → Value
+line_cell None column = empty_value (line_kind column)
+line_cell (Some item) line.Time = natural item.time
+line_cell (Some item) line.Class = natural item.class
+line_cell (Some item) line.Type = Words (line_type item)
+line_cell (Some item) line.Message = Words item.message
+line_cell (Some item) line.Options = Words (line_options item)
+line_cell (Some item) line.Comment = Words item.comment
+line_cell (Some item) line.PluginOutput = Words item.output
+line_cell (Some item) line.State = Number item.state
+line_cell (Some item) line.StateType = Words item.word
+line_cell (Some item) line.Attempt = natural item.attempt
+line_cell (Some item) line.ContactName = Words item.contact
+line_cell (Some item) line.CommandName = Words item.command
+line_cell (Some item) line.HostName = Words item.host
+line_cell (Some item) line.ServiceDescription = Words item.service
 
 -- ---- the program and the schema
 

@@ -2,6 +2,7 @@
 use Rattle.std.specs.Prelude.{ℕ, ◌==◌, ◌&&◌, Bool, true, false, List, [], ◌∷◌, length, map, filter}
 use Rattle.std.specs.List.{enumerate_from, flat_map, range_with_len, slice_get}
 use Rattle.std.specs.Option.{option_map_or}
+use Rattle.lq_records.specs.declared.base.Base.{Base}
 use Rattle.lq_records.specs.declared.base.HostGroup.{HostGroup}
 use Rattle.lq_records.specs.declared.base.Service.{Service}
 use Rattle.lq_records.specs.declared.base.ServiceGroup.{ServiceGroup}
@@ -9,10 +10,13 @@ use Rattle.lq_schema.specs.declared.columns.Table.{Table}
 use Rattle.lq_schema.specs.declared.columns.Table.TheVariants as table
 use Rattle.lq_records.specs.declared.ids.HostGroupId.{HostGroupId}
 use Rattle.lq_records.specs.declared.ids.HostId.{HostId}
+use Rattle.lq_events.specs.declared.log_entry.LogEntry.{LogEntry}
+use Rattle.lq_log.specs.Told.{object_of}
 use Rattle.lq_live.specs.State.{State}
+use Rattle.lq_auth.specs.Lines.{sees_line}
 use Rattle.lq_auth.specs.Rights.{sees_host, sees_host_group, sees_object, sees_service, sees_service_group}
 use Rattle.lq_auth.specs.declared.view.View.{View}
-use Rattle.lq_tables.specs.About.{row_object}
+use Rattle.lq_tables.specs.About.{row_line, row_object}
 use Rattle.lq_tables.specs.Schema.{schema}
 use Rattle.lq_tables.specs.declared.row.Row.{Row}
 use Rattle.lq_tables.specs.declared.row.Row.TheVariants as row
@@ -71,6 +75,7 @@ table_rows s table.TimePeriods =
     map (λ place. row.Period (record { 0 = place })) (places_of s.base.periods)
 table_rows s table.Downtimes = map (λ downtime. row.Downtime downtime.id) s.downtimes
 table_rows s table.Comments = map (λ comment. row.Comment comment.id) s.comments
+table_rows s table.Log = map row.Line (places_of s.log)
 table_rows s table.Status = row.Status ∷ []
 table_rows s table.Columns = map row.Column (places_of schema)
 table_rows s table.HostsByGroup = flat_map host_group_rows (numbered s.base.host_groups)
@@ -80,6 +85,10 @@ table_rows s table.ServicesByHostGroup =
 
 -- ---- rights
 
+-- a line of the log is seen by the object that it is about
+abbrev pub sees_entry : Base → View → LogEntry → Bool
+sees_entry base view entry = sees_line view (object_of base entry) entry
+
 -- a group is seen by itself, a pair of a group and an object where both are, any other row where
 -- the host or the service is seen that it is about; rows about none are seen by all
 abbrev pub sees_row : State → View → Row → Bool
@@ -88,6 +97,8 @@ sees_row s view (row.ServiceGroup id) = sees_service_group view id
 sees_row s view (row.HostOf group id) = sees_host_group view group && sees_host view id
 sees_row s view (row.ServiceOf group id) = sees_service_group view group && sees_service view id
 sees_row s view (row.GroupService group id) = sees_host_group view group && sees_service view id
+sees_row s view (row.Line place) =
+    option_map_or (sees_entry s.base view) (row_line s (row.Line place)) true
 sees_row s view row = option_map_or (sees_object view) (row_object s row) true
 
 -- the rows of a table that a query sees

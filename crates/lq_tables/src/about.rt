@@ -4,13 +4,14 @@ ghost use Rattle.std.specs.Prelude.{◌≡◌};
 ghost use Rattle.std.specs.List.{slice_get};
 ghost use Rattle.std.specs.Option.{option_and_then, option_copied, option_map};
 ghost use Rattle.lq_columns.specs.Cells.{host_record, service_record};
-ghost use Rattle.lq_tables.specs.About.{comment_with, downtime_with, host_of_object, row_command, row_comment, row_contact, row_contact_group, row_downtime, row_entry, row_host_group, row_object, row_period, row_service_group, service_of_object};
+ghost use Rattle.lq_tables.specs.About.{comment_with, downtime_with, host_of_object, row_command, row_comment, row_contact, row_contact_group, row_downtime, row_entry, row_host_group, row_line, row_object, row_period, row_service_group, service_of_object};
 
 use crate::row::Row;
 use crate::schema::{Entry, entry_at};
 use lq_columns::{HostRow, ServiceRow};
-use lq_events::{Comment, Downtime};
+use lq_events::{Comment, Downtime, LogEntry};
 use lq_live::Live;
+use lq_log::object_of;
 use lq_records::{
     Base, Command, Contact, ContactGroup, HostGroupId, Object, Period, ServiceGroupId,
 };
@@ -57,9 +58,20 @@ fn comment_with(live: &Live, id: u64) -> Option<&Comment>
     }
 }
 
+// ---- lines of the log
+
+pub(crate) fn row_line(live: &Live, row: Row) -> Option<&LogEntry>
+    ensures { option_copied result ≡ row_line live.now.state row }
+{
+    match row {
+        Row::Line(place) => live.log().entries().get(place as usize),
+        _ => None,
+    }
+}
+
 // ---- hosts and services
 
-/// The host or service that a row is about, or its downtime or comment.
+/// The host or service that a row is about, or its downtime, its comment or its line of the log.
 #[inline]
 pub(crate) fn row_object(live: &Live, row: Row) -> Option<Object>
     ensures { result ≡ row_object live.now.state row }
@@ -75,6 +87,10 @@ pub(crate) fn row_object(live: &Live, row: Row) -> Option<Object>
         },
         Row::Comment(id) => match comment_with(live, id) {
             Some(comment) => Some(comment.object),
+            None => None,
+        },
+        Row::Line(_) => match row_line(live, row) {
+            Some(entry) => object_of(live.base(), entry),
             None => None,
         },
         _ => None,

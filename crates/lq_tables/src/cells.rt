@@ -18,13 +18,15 @@ ghost use Rattle.lq_tables.specs.Statuses.{AreOfHosts, AreOfServices};
 
 use crate::about::{
     host_of, row_command, row_comment, row_contact, row_contact_group, row_downtime, row_entry,
-    row_host_group, row_object, row_period, row_service_group, service_of,
+    row_host_group, row_line, row_object, row_period, row_service_group, service_of,
 };
-use crate::contacts::{command_text, contact_text, period_text};
+use crate::contacts::{command_text, contact_text};
 use crate::groups::{
     contact_group_text, contact_group_value, host_group_text, host_group_value, service_group_text,
     service_group_value,
 };
+use crate::line::{line_number, line_text, line_value};
+use crate::period::{period_number, period_text, period_value};
 use crate::program::{program_number, program_text, program_value, schema_text, schema_value};
 use crate::remarks::{
     comment_number, comment_text, comment_value, downtime_number, downtime_text, downtime_value,
@@ -32,7 +34,7 @@ use crate::remarks::{
 use crate::row::Row;
 use lq_auth::View;
 use lq_columns::{HostRow, ServiceRow, empty_number, empty_text, empty_value, status_number};
-use lq_events::{Comment, Downtime, Status};
+use lq_events::{Comment, Downtime, LogEntry, Status};
 use lq_live::Live;
 use lq_records::{ContactId, Memory};
 use lq_schema::{
@@ -41,9 +43,9 @@ use lq_schema::{
 use std::alloc::Global;
 use std::marker::Model;
 
-/// The cells of a row at a state. The host, service, downtime or comment that the row is about is
-/// found once, and not again at each cell. Contracts see it as the state, what a query
-/// sees of it, and the row.
+/// The cells of a row at a state. The host, service, downtime, comment or line of the log that the
+/// row is about is found once, and not again at each cell. Contracts see it as the state, what a
+/// query sees of it, and the row.
 ///
 /// Where the row is about nothing of a column's kind, as a host's comment about no service, its
 /// cell is 0, an empty text or an empty list.
@@ -56,6 +58,7 @@ pub struct RowCells<'a> {
     service: Option<ServiceRow<'a>>,
     downtime: Option<&'a Downtime>,
     comment: Option<&'a Comment>,
+    line: Option<&'a LogEntry>,
 }
 
 impl<'a> Model for RowCells<'a> {
@@ -72,9 +75,13 @@ impl<'a> Model for RowCells<'a> {
       row = cells.row;
     } };
 
-    ghost invariant = { λ cells. IsAbout cells.live.now.state cells.row
-        (option_map host_record cells.host) (option_map service_record cells.service)
-        (option_copied cells.downtime) (option_copied cells.comment) };
+    ghost invariant = { λ cells. IsAbout cells.live.now.state cells.row (record {
+      host = option_map host_record cells.host;
+      service = option_map service_record cells.service;
+      downtime = option_copied cells.downtime;
+      comment = option_copied cells.comment;
+      line = option_copied cells.line;
+    }) };
 }
 
 impl<'a> RowCells<'a> {
@@ -92,12 +99,14 @@ impl<'a> RowCells<'a> {
             service: service_of(live, object),
             downtime: row_downtime(live, row),
             comment: row_comment(live, row),
+            line: row_line(live, row),
         }
     }
 
     /// The number of a cell that is found without a look at other objects, None for any other cell:
-    /// a text or a list, a counter, how many downtimes hold. It is what `value` gives, whatever a
-    /// query sees, and takes no memory.
+    /// a text or a list, a counter, how many downtimes hold, whether a host or a service is
+    /// flapping or in its notification period. It is what `value` gives, whatever a query sees, and
+    /// takes no memory.
     #[inline]
     pub fn number(&self, c: Col) -> Option<i128>
         ensures value { (view : View) → IfSome result (λ number.
@@ -113,8 +122,13 @@ impl<'a> RowCells<'a> {
                 Some(service) => service.number(column),
                 None => empty_number(kind(c)),
             },
+            OwnColumn::Period(column) => {
+                let period = row_period(self.live.base(), self.row);
+                period_number(self.live, period, column)
+            }
             OwnColumn::Downtime(column) => downtime_number(self.downtime, column),
             OwnColumn::Comment(column) => comment_number(self.comment, column),
+            OwnColumn::Line(column) => line_number(self.line, column),
             OwnColumn::Program(column) => program_number(self.live, self.row, column),
             _ => None,
         }
@@ -149,9 +163,10 @@ impl<'a> RowCells<'a> {
                 contact_group_text(row_contact_group(base, row), column)
             }
             OwnColumn::Command(column) => Some(command_text(row_command(base, row), column)),
-            OwnColumn::Period(column) => Some(period_text(row_period(base, row), column)),
+            OwnColumn::Period(column) => period_text(row_period(base, row), column),
             OwnColumn::Downtime(column) => downtime_text(self.downtime, column),
             OwnColumn::Comment(column) => comment_text(self.comment, column),
+            OwnColumn::Line(column) => line_text(self.line, column),
             OwnColumn::Program(column) => program_text(row, column),
             OwnColumn::Schema(column) => schema_text(row_entry(row), column),
         }
@@ -191,10 +206,11 @@ impl<'a> RowCells<'a> {
                 Ok(Val::Str(command_text(row_command(base, row), column)))
             },
             OwnColumn::Period(column) => {
-                Ok(Val::Str(period_text(row_period(base, row), column)))
+                Ok(period_value(alloc, live, row_period(base, row), column))
             },
             OwnColumn::Downtime(column) => Ok(downtime_value(alloc, self.downtime, column)),
             OwnColumn::Comment(column) => Ok(comment_value(alloc, self.comment, column)),
+            OwnColumn::Line(column) => Ok(line_value(alloc, self.line, column)),
             OwnColumn::Program(column) => Ok(program_value(alloc, live, row, column)),
             OwnColumn::Schema(column) => schema_value(alloc, row_entry(row), column),
         }
@@ -218,8 +234,10 @@ pub fn row_number(live: &Live, row: Row, c: Col) -> Option<i128>
             Some(service) => service.number(column),
             None => empty_number(kind(c)),
         },
+        OwnColumn::Period(column) => { period_number(live, row_period(live.base(), row), column) }
         OwnColumn::Downtime(column) => downtime_number(row_downtime(live, row), column),
         OwnColumn::Comment(column) => comment_number(row_comment(live, row), column),
+        OwnColumn::Line(column) => line_number(row_line(live, row), column),
         OwnColumn::Program(column) => program_number(live, row, column),
         _ => None,
     }
@@ -334,6 +352,7 @@ pub fn row_text<'a>(live: &'a Live, row: Row, c: Col, view: &'a View) -> Option<
         },
         OwnColumn::Downtime(column) => downtime_text(row_downtime(live, row), column),
         OwnColumn::Comment(column) => comment_text(row_comment(live, row), column),
+        OwnColumn::Line(column) => line_text(row_line(live, row), column),
         _ => RowCells::of(live, row, view).text(c),
     }
 }

@@ -1,10 +1,10 @@
 ghost use Rattle.std.specs.Prelude.{◌≡◌};
 ghost use Rattle.std.specs.Option.{option_copied};
 ghost use Rattle.lq_schema.specs.Value.{Words};
-ghost use Rattle.lq_tables.specs.Parts.{command_cell, contact_cell, period_cell};
+ghost use Rattle.lq_tables.specs.Parts.{command_cell, contact_cell};
 
-use lq_records::{Command, Contact, Period};
-use lq_schema::{CommandColumn, ContactColumn, PeriodColumn};
+use lq_records::{Command, Contact};
+use lq_schema::{CommandColumn, ContactColumn};
 
 /// The text of a column on a contact. All its columns are texts.
 pub(crate) fn contact_text(contact: Option<&Contact>, column: ContactColumn) -> &str
@@ -33,18 +33,5 @@ pub(crate) fn command_text(command: Option<&Command>, column: CommandColumn) -> 
     match column {
         CommandColumn::Name => command.command_name.as_str(),
         CommandColumn::Line => command.command_line.as_str(),
-    }
-}
-
-/// The text of a column on a time period. All its columns are texts.
-pub(crate) fn period_text(period: Option<&Period>, column: PeriodColumn) -> &str
-    ensures { period_cell (option_copied period.entry) column ≡ Words result.now }
-{
-    let Some(period) = period else {
-        return "";
-    };
-    match column {
-        PeriodColumn::Name => period.timeperiod_name.as_str(),
-        PeriodColumn::Alias => period.alias.as_str(),
     }
 }

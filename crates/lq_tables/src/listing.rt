@@ -17,7 +17,8 @@ use lq_schema::Table;
 use std::alloc::Global;
 
 /// All rows of a table, in order: objects as the object file lists them, downtimes and comments by
-/// their ids, the members of each group as the group lists them. The only error is out of memory.
+/// their ids, the lines of the log as they stand there, the members of each group as the group
+/// lists them. The only error is out of memory.
 pub(crate) fn table_rows(alloc: Global, live: &Live, t: Table) -> Result<Vec<Row>, Memory>
     ensures all { IfOk result (λ rows. rows.items ≡ table_rows live.now.state t) }
     ensures ids { HasRisingIds live.now.state }
@@ -35,6 +36,7 @@ pub(crate) fn table_rows(alloc: Global, live: &Live, t: Table) -> Result<Vec<Row
         Table::TimePeriods => Listed::Periods.rows(alloc, base.periods.len())?,
         Table::Downtimes => downtime_rows(alloc, downtimes)?,
         Table::Comments => comment_rows(alloc, comments)?,
+        Table::Log => line_rows(alloc, live.log().len())?,
         Table::Status => status_rows(alloc)?,
         Table::Columns => column_rows(alloc)?,
         Table::HostsByGroup => hosts_by_group(alloc, base.host_groups.as_slice())?,
@@ -66,6 +68,12 @@ fn comment_rows(alloc: Global, comments: &[Comment]) -> Result<Vec<Row>, Memory>
         .iter()
         .map(|comment| Row::Comment(comment.id))
         .collect(alloc)
+}
+
+fn line_rows(alloc: Global, count: usize) -> Result<Vec<Row>, Memory>
+    ensures { IfOk result (λ rows. rows.items ≡ map row.Line (range_with_len 0 count)) }
+{
+    (0..count as u64).map(Row::Line).collect(alloc)
 }
 
 fn status_rows(alloc: Global) -> Result<Vec<Row>, Memory>

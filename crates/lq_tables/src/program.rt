@@ -11,8 +11,7 @@ ghost use Rattle.lq_schema.specs.declared.columns.OwnColumn.TheVariants as own;
 
 use crate::row::Row;
 use crate::schema::Entry;
-use crate::value::flag;
-use lq_columns::{empty_number, empty_text, empty_value};
+use lq_columns::{empty_number, empty_text, empty_value, flag};
 use lq_live::Live;
 use lq_records::{Memory, Text};
 use lq_schema::{Col, ColKind, OwnColumn, ProgramColumn, SchemaColumn, Val, column_name, kind};

@@ -17,6 +17,8 @@ pub enum Row {
     Downtime(u64),
     /// The comment with an id.
     Comment(u64),
+    /// The line at a place of the log.
+    Line(u64),
     /// The program as a whole.
     Status,
     /// A column by its place among all columns of all tables: the tables in their order, each with

@@ -30,8 +30,8 @@ const HOSTS: (&str, &str) = (
     "GET hosts\nColumnHeaders: off",
     "web1;Web One;10.0.0.1;First;look!3;always;days;3;Mind it;/notes;/do;a.png;bert,anna,carl;\
 all,ops;web,first;SITE,_RACK,A;north,r2,;;web2;http,disk;1;1;1;1;1;1;100;100;100;down;x=1;\
-1;2;1;1;2;1,3;2;0;0;1;1;0;2
-web2;web2;;web2;;;;1;;;;;;;web,second;;;web1;;ping;0;1;0;0;0;1;0;0;0;;;0;0;0;0;;;1;0;0;0;0;1;0
+1;2;1;0;1;1;2;1,3;2;0;0;1;1;0;2
+web2;web2;;web2;;;;1;;;;;;;web,second;;;web1;;ping;0;1;0;0;0;1;0;0;0;;;0;0;0;0;0;1;;;1;0;0;0;0;1;0
 ",
 );
 
@@ -157,7 +157,8 @@ const NOWHERE: &[(Table, Row)] = &[
     (Table::TimePeriods, Row::Period(PeriodId(2))),
     (Table::Downtimes, Row::Downtime(1)),
     (Table::Comments, Row::Comment(1)),
-    (Table::Columns, Row::Column(590)),
+    (Table::Log, Row::Line(1)),
+    (Table::Columns, Row::Column(709)),
     (Table::HostsByGroup, Row::HostOf(HostGroupId(4), HostId(2))),
     (
         Table::ServicesByGroup,

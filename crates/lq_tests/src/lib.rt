@@ -15,6 +15,8 @@ mod formats;
 #[cfg(test)]
 mod live;
 #[cfg(test)]
+mod log;
+#[cfg(test)]
 mod objects;
 #[cfg(test)]
 mod opening;

@@ -146,8 +146,8 @@ define command {\ncommand_name check\ncommand_line /bin/check -H '$HOSTADDRESS$'
 define timeperiod {\ntimeperiod_name never\n}
 define command {\ncommand_name nothing\n}\n",
         "GET timeperiods\nColumnHeaders: off\n\nGET commands\nColumnHeaders: off",
-        "always;All the time
-never;never
+        "always;All the time;1
+never;never;1
 check;/bin/check -H '$HOSTADDRESS$' a;b # c
 nothing;
 ",

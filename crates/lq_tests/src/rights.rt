@@ -377,6 +377,72 @@ fn rules_are_strict_or_loose(rt: HostRuntime) -> Result<(), Fail> {
     assert_site(&rt, Site::under(rt.alloc(), SITE, LOOSE)?, STATE, loosely)
 }
 
+/// Lines of each class, about objects of the base, about others and about none.
+const LOG: &[u8] = b"[100] LOG VERSION: 2.0
+[101] something else
+[102] TIMEPERIOD TRANSITION: days;-1;1
+[103] HOST ALERT: web2;DOWN;HARD;1;down
+[104] SERVICE ALERT: web1;disk;CRITICAL;HARD;1;full
+[105] HOST NOTIFICATION: anna;web1;DOWN;mail;away
+[106] PASSIVE SERVICE CHECK: web2;ping;1;slow
+[107] EXTERNAL COMMAND: ADD_HOST_COMMENT;web1;1;anna;one
+[108] CURRENT HOST STATE: web3;UP;HARD;1;
+[109] HOST ALERT: web9;DOWN;HARD;1;gone
+[110] HOST ALERT: web1;LOST;HARD;1;away
+[111] SERVICE FLAPPING ALERT: web1;http;STARTED; flaps
+[112] PASSIVE HOST CHECK: web9;1;away
+[113] HOST NOTIFICATION: anna;web9;DOWN;mail;away
+[114] CURRENT SERVICE STATE: web2;http;OK;HARD;1;
+";
+
+const LINES: &str = "GET log\nColumns: time\nAuthUser: ";
+
+/// What a contact sees of the log: what is about its objects, and the lines 100 to 102 and 110,
+/// which are about none and open to all.
+const OF_LINES: &[(&str, &str)] = &[
+    ("anna", "100\n101\n102\n104\n105\n110\n111\n"),
+    ("bert", "100\n101\n102\n103\n104\n106\n110\n"),
+    ("carl", "100\n101\n102\n108\n110\n"),
+    ("eve", "100\n101\n102\n104\n105\n108\n110\n111\n"),
+    ("dora", "100\n101\n102\n110\n"),
+    ("nobody", ""),
+    ("", ""),
+    ("anna\nLimit: 1\nFilter: class = 1", "104\n"),
+];
+
+/// What is joined to a line is cut too: the host of the service that it is about need not be seen.
+const JOINED_LINES: &str = "GET log
+Columns: time current_host_name current_service_description current_host_services
+Filter: class = 1
+AuthUser: ";
+
+const OF_JOINED_LINES: &[(&str, &str)] = &[
+    ("bert", "103;web2;;ping\n104;web1;disk;disk\n"),
+    ("anna", "104;web1;disk;http,disk\n111;web1;http;http,disk\n"),
+];
+
+const COUNTED_LINES: &str = "GET log\nStats: class = 1\nStats: time > 0\nAuthUser: ";
+
+const OF_COUNTED_LINES: &[(&str, &str)] = &[
+    ("anna", "2;7\n"),
+    ("dora", "0;4\n"),
+    ("nobody", "0;0\n"),
+];
+
+const OF_ALL_LINES: &[(&str, &str)] = &[("", "15\n")];
+
+#[test]
+fn a_user_sees_the_lines_of_its_objects(rt: HostRuntime) -> Result<(), Fail> {
+    let site = Site::after_log(rt.alloc(), SITE, LOG)?;
+    let queries = [
+        (LINES, OF_LINES),
+        (JOINED_LINES, OF_JOINED_LINES),
+        (COUNTED_LINES, OF_COUNTED_LINES),
+        ("GET log\nStats: time > 0", OF_ALL_LINES),
+    ];
+    assert_site(&rt, site, "", &queries)
+}
+
 /// Two hosts of one contact each, two services of the first one, and groups of both.
 const SMALL: &[u8] = b"define contact {
  contact_name anna

@@ -17,8 +17,8 @@ groups L,custom_variable_names L,custom_variable_values L";
 
 const STATUS: &str = "state I,state_type I,hard_state I,last_hard_state I,has_been_checked I,\
 current_attempt I,last_check I,last_state_change I,last_hard_state_change I,plugin_output S,\
-perf_data S,acknowledged I,acknowledgement_type I,scheduled_downtime_depth I,\
-notifications_enabled I,comments N,downtimes N";
+perf_data S,acknowledged I,acknowledgement_type I,scheduled_downtime_depth I,is_flapping I,\
+notifications_enabled I,in_notification_period I,comments N,downtimes N";
 
 const COUNTERS: &str = "num_services I,num_services_ok I,num_services_warn I,num_services_crit I,\
 num_services_unknown I,num_services_pending I,worst_service_state I";
@@ -58,6 +58,11 @@ const COMMENT: &[&str] = &[
     "id I,author S,comment S,entry_time I,entry_type I,persistent I,is_service I",
 ];
 
+const LINE: &[&str] = &[
+    "time I,class I,type S,message S,options S,comment S,plugin_output S,state I,state_type S",
+    "attempt I,contact_name S,command_name S,host_name S,service_description S",
+];
+
 const PROGRAM: &[&str] = &[
     "program_version S,enable_notifications I,num_hosts I",
     "num_services I,present_second I",
@@ -70,11 +75,11 @@ type Joined = (&'static str, &'static [&'static str]);
 type Listed = (&'static str, &'static str, usize, &'static [Joined]);
 
 const LISTED: &[Listed] = &[
-    ("hosts", "host_", 44, &[("", HOST)]),
+    ("hosts", "host_", 46, &[("", HOST)]),
     (
         "services",
         "service_",
-        76,
+        80,
         &[("", SERVICE), ("host_", HOST)],
     ),
     ("hostgroups", "hostgroup_", 19, &[("", HOST_GROUP)]),
@@ -90,20 +95,30 @@ const LISTED: &[Listed] = &[
     (
         "timeperiods",
         "timeperiod_",
-        2,
-        &[("", &["name S,alias S"])],
+        3,
+        &[("", &["name S,alias S,in I"])],
     ),
     (
         "downtimes",
         "downtime_",
-        86,
+        90,
         &[("", DOWNTIME), ("host_", HOST), ("service_", SERVICE)],
     ),
     (
         "comments",
         "comment_",
-        83,
+        87,
         &[("", COMMENT), ("host_", HOST), ("service_", SERVICE)],
+    ),
+    (
+        "log",
+        "log_",
+        94,
+        &[
+            ("", LINE),
+            ("current_host_", HOST),
+            ("current_service_", SERVICE),
+        ],
     ),
     ("status", "status_", 5, &[("", PROGRAM)]),
     (
@@ -115,13 +130,13 @@ const LISTED: &[Listed] = &[
     (
         "hostsbygroup",
         "host_",
-        63,
+        65,
         &[("", HOST), ("hostgroup_", HOST_GROUP)],
     ),
     (
         "servicesbygroup",
         "service_",
-        89,
+        93,
         &[
             ("", SERVICE),
             ("host_", HOST),
@@ -131,7 +146,7 @@ const LISTED: &[Listed] = &[
     (
         "servicesbyhostgroup",
         "service_",
-        95,
+        99,
         &[("", SERVICE), ("host_", HOST), ("hostgroup_", HOST_GROUP)],
     ),
 ];
@@ -293,7 +308,13 @@ host;name;no table
 hostss;name;no table
 hosts ;name;no table
  hosts;name;no table
-log;name;no table
+log;name;none
+log;log_time;|time
+log;host_name;|host_name
+log;current_host_name;current_host_|name
+log;log_current_service_state;current_service_|state
+log;service_state;none
+logs;time;no table
 statehist;name;no table
 ;name;no table
 ";

@@ -68,7 +68,10 @@ carl;carl;;;;
         "name;alias;members\nops;Operators;anna,carl\nall;all;carl,bert\nnobody;nobody;\n",
     ),
     ("GET commands", "name;line\nlook;look -x $HOSTADDRESS$;1\n"),
-    ("GET timeperiods", "name;alias\nalways;Always\ndays;days\n"),
+    (
+        "GET timeperiods",
+        "name;alias;in\nalways;Always;1\ndays;days;1\n",
+    ),
     (
         "GET hostsbygroup\nColumns: name alias hostgroup_name hostgroup_alias hostgroup_members",
         "web2;web2;web;Web;web2,web1

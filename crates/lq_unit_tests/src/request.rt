@@ -382,9 +382,9 @@ const COLUMNS: &[(&[u8], &str)] = &[
 ];
 
 const ALL_COLUMNS: &[(&[u8], &str)] = &[
-    (b"GET hosts", "hosts+names 44 columns"),
-    (b" GET\thosts\r\n", "hosts+names 44 columns"),
-    (b"GET services", "services+names 76 columns"),
+    (b"GET hosts", "hosts+names 46 columns"),
+    (b" GET\thosts\r\n", "hosts+names 46 columns"),
+    (b"GET services", "services+names 80 columns"),
     (b"GET hostgroups", "hostgroups+names 19 columns"),
     (b"GET servicegroups", "servicegroups+names 13 columns"),
     (b"GET contacts", "contacts+names 6 columns"),
@@ -393,16 +393,17 @@ const ALL_COLUMNS: &[(&[u8], &str)] = &[
         "contactgroups+names name alias members",
     ),
     (b"GET commands", "commands+names name line"),
-    (b"GET timeperiods", "timeperiods+names name alias"),
-    (b"GET downtimes", "downtimes+names 86 columns"),
-    (b"GET comments", "comments+names 83 columns"),
+    (b"GET timeperiods", "timeperiods+names name alias in"),
+    (b"GET downtimes", "downtimes+names 90 columns"),
+    (b"GET comments", "comments+names 87 columns"),
+    (b"GET log", "log+names 94 columns"),
     (b"GET status", "status+names 5 columns"),
     (b"GET columns", "columns+names table name type description"),
-    (b"GET hostsbygroup", "hostsbygroup+names 63 columns"),
-    (b"GET servicesbygroup", "servicesbygroup+names 89 columns"),
+    (b"GET hostsbygroup", "hostsbygroup+names 65 columns"),
+    (b"GET servicesbygroup", "servicesbygroup+names 93 columns"),
     (
         b"GET servicesbyhostgroup",
-        "servicesbyhostgroup+names 95 columns",
+        "servicesbyhostgroup+names 99 columns",
     ),
 ];
 
@@ -486,7 +487,7 @@ const FIRST_LINES: &[(&[u8], &str)] = &[
     (b"GET\nColumns: name", "451 missing table name"),
     (b"GET nothing\nColumns: name", "404 unknown table: nothing"),
     (b"GET Hosts\nColumns: name", "404 unknown table: Hosts"),
-    (b"GET log", "404 unknown table: log"),
+    (b"GET logs", "404 unknown table: logs"),
     (b"GET statehist", "404 unknown table: statehist"),
     (b"GET nothing x", "404 unknown table: nothing"),
     (b"GET hosts x", "400 extra words after the table name"),

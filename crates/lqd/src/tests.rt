@@ -251,7 +251,7 @@ const TABLES: &[(&[u8], &[u8])] = &[
         b"GET contactgroups\n\n",
         b"name;alias;members\nops;ops;anna\n",
     ),
-    (b"GET timeperiods\n\n", b"name;alias\nalways;Always\n"),
+    (b"GET timeperiods\n\n", b"name;alias;in\nalways;Always;1\n"),
     (
         b"GET status\n\n",
         b"program_version;enable_notifications;num_hosts;num_services;present_second\nlqd 1;1;2;3;0\n",
@@ -284,12 +284,12 @@ const TABLES: &[(&[u8], &[u8])] = &[
     (
         b"GET services\nColumns: host_name description state has_been_checked state_type \
 current_attempt max_check_attempts plugin_output perf_data acknowledged scheduled_downtime_depth \
-notifications_enabled contacts\nAuthUser: anna\nKeepAlive: on\nLocaltime: 1700000000
+is_flapping notifications_enabled contacts\nAuthUser: anna\nKeepAlive: on\nLocaltime: 1700000000
 OutputFormat: json\nResponseHeader: fixed16\n\n",
-        b"200          97\n[[\"web1\",\"http\",0,0,1,1,3,\"\",\"\",0,0,1,[\"anna\"]],
-[\"web1\",\"disk\",0,0,1,1,1,\"\",\"\",0,0,1,[\"bert\"]]]\n",
+        b"200         101\n[[\"web1\",\"http\",0,0,1,1,3,\"\",\"\",0,0,0,1,[\"anna\"]],
+[\"web1\",\"disk\",0,0,1,1,1,\"\",\"\",0,0,0,1,[\"bert\"]]]\n",
     ),
-    (b"GET log\n\n", b""),
+    (b"GET statehist\n\n", b""),
     (b"GET services\nColumns: name\n\n", b""),
     (b"GET services\nColumnHeaders: yes\n\n", b""),
 ];

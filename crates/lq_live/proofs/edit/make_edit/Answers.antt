@@ -12,10 +12,12 @@ returns-in-AddDowntime-clause-index c = record {
   moment =
       rw (c.min-live.ensures, c.push_reserved-in-AddDowntime.ensures.items)
       (added_first c.args.live.now.next_moment c.next_moment.result c.in-AddDowntime.downtime c.args.live.now.downtimes.items c.requires.index.moment c.next_moment.ensures.from);
+  told = c.requires.index.told;
 }
 
 pub returns-in-RemoveDowntime-clause-index : goal.returns-in-RemoveDowntime-clause-index
 returns-in-RemoveDowntime-clause-index c = record {
   moment = rw c.remove-in-RemoveDowntime.ensures.kept
       (filter_from c.args.live.now.next_moment (λ downtime. not (is_named c.in-RemoveDowntime.kind c.in-RemoveDowntime.id downtime.id downtime.object)) c.args.live.now.downtimes.items c.requires.index.moment);
+  told = c.requires.index.told;
 }

@@ -1,14 +1,15 @@
 use Rattle.std.proofs.Common.{ap, ◌∙◌, ◌||◌}
 use Rattle.std.specs.List.{list_any}
-use Rattle.lq_auth.specs.Rights.{has_contact, is_contact_of}
+use Rattle.lq_auth.specs.Lists.{is_named}
+use Rattle.lq_auth.specs.Rights.{has_contact}
 use Rattle.lq_auth.proofs.MarkLemmas.{by_marks}
-use Rattle.lq_auth.proofs.contacts.Viewer.is_contact_of.Goals as goal
+use Rattle.lq_auth.proofs.contacts.Viewer.is_named.Goals as goal
 
 pub returns : goal.returns
 returns c =
     let contact = c.self.inside.contact in
-    let fields = c.args.fields.now in
+    let lists = c.args.lists.now in
     c.is_contact.ensures
-    ∙ ap (λ test. has_contact contact fields.contacts || list_any test fields.contact_groups)
+    ∙ ap (λ test. has_contact contact lists.contacts || list_any test lists.contact_groups)
     (by_marks (λ group. has_contact contact group.members) c.self.inside.base.now.contact_groups (λ id. id.0) c.deref.result.now (c.deref.ensures.value ∙ c.self.invariant))
-    ∙ ap (λ viewer. is_contact_of viewer.base viewer.contact fields) c.self.view_is
+    ∙ ap (λ viewer. is_named viewer.base viewer.contact lists) c.self.view_is

@@ -1,0 +1,230 @@
+//! What the log last told of flapping and of time periods, so that it isn't walked through again.
+
+ghost use Rattle.std.specs.Prelude.{◌≡◌, ◌++◌, ◌∷◌, [], List, IfOk, map, slice_set};
+ghost use Rattle.std.specs.Arc.{arc_value};
+ghost use Rattle.std.specs.List.{range_with_len};
+ghost use Rattle.lq_events.specs.declared.log_entry.LogEntry.{LogEntry};
+ghost use Rattle.lq_records.specs.declared.base.Base.{Base};
+ghost use Rattle.lq_log.specs.LastTold.{is_flapping, is_period_on};
+ghost use Rattle.lq_live.specs.LastTold.{AreTold, hosts_with, periods_with, services_with};
+
+use lq_events::LogEntry;
+use lq_log::{Told, is_flapping, is_period_on, object_of, period_of, told_by};
+use lq_records::{
+    Base, HostId, Memory, MonitoredObject, NamedItems, NamedObject, Object, ServiceId, Text,
+};
+use std::alloc::Global;
+use std::sync::Arc;
+
+/// The name of a time period.
+#[derive(Drop)]
+pub(crate) struct PeriodName {
+    name: Text,
+}
+
+impl NamedObject for PeriodName {
+    ghost owner_of = { λ _. 0 };
+
+    ghost name_of = { λ period. period.name };
+
+    fn owner(&self) -> u32 {
+        0
+    }
+
+    fn name(&self) -> &Text {
+        &self.name
+    }
+}
+
+/// For each host and each service whether it is flapping, and for names of time periods whether
+/// these are on.
+#[derive(Drop)]
+pub(crate) struct LastTold {
+    hosts: Vec<bool>,
+    services: Vec<bool>,
+    /// Names in the base, of its time periods and at its objects. Shared with the copies.
+    names: Arc<NamedItems<PeriodName>, Global>,
+    /// For each name, whether the period is on.
+    periods: Vec<bool>,
+}
+
+impl LastTold {
+    /// Marks of no object and no period. The only error is out of memory.
+    pub(crate) fn empty(alloc: Global) -> Result<Self, Memory> {
+        Ok(LastTold {
+            hosts: Vec::new(alloc),
+            services: Vec::new(alloc),
+            names: Arc::new(alloc, NamedItems::from_vec(alloc, Vec::new(alloc))?)?,
+            periods: Vec::new(alloc),
+        })
+    }
+
+    /// What the lines of a log last told of the objects of a base and of time periods. The only
+    /// error is out of memory.
+    pub(crate) fn after(alloc: Global, base: &Base, log: &[LogEntry]) -> Result<Self, Memory>
+        ensures { IfOk result (λ told. AreTold told base.now log.now) }
+    {
+        let mut told = LastTold::new(alloc, base)?;
+        told.add_lines(base, log);
+        Ok(told)
+    }
+
+    /// What is known without a log: nothing is flapping, and each period is on.
+    fn new(alloc: Global, base: &Base) -> Result<Self, Memory>
+        ensures { IfOk result (λ told. AreTold told base.now []) }
+    {
+        let names = period_names(alloc, base)?;
+        Ok(LastTold {
+            hosts: marks(alloc, base.hosts.len(), false)?,
+            services: marks(alloc, base.services.len(), false)?,
+            periods: marks(alloc, names.len(), true)?,
+            names: Arc::new(alloc, names)?,
+        })
+    }
+
+    /// Takes in what the lines of a log tell.
+    fn add_lines(&mut self, base: &Base, log: &[LogEntry])
+        ensures { AreTold self.old base.now [] → AreTold self.new base.now log.now }
+    {
+        for entry in log {
+            self.add_line(base, entry);
+        }
+    }
+
+    /// Takes in what one more line tells.
+    pub(crate) fn add_line(&mut self, base: &Base, entry: &LogEntry)
+        ensures { (log : List LogEntry) → AreTold self.old base.now log
+            → AreTold self.new base.now (log ++ entry.now ∷ []) }
+    {
+        match told_by(entry) {
+            Some(Told::Flapping { on }) => self.set_flapping(object_of(base, entry), on),
+            Some(Told::Period { on }) => self.set_period(period_of(entry), on),
+            Some(Told::State { .. } | Told::Downtime { .. }) | None => {}
+        }
+    }
+
+    fn set_flapping(&mut self, about: Option<Object>, on: bool)
+        ensures hosts { self.new.hosts.items ≡ hosts_with about on self.old.hosts.items }
+        ensures services { self.new.services.items
+            ≡ services_with about on self.old.services.items }
+        ensures names { self.new.names ≡ self.old.names }
+        ensures periods { self.new.periods.items ≡ self.old.periods.items }
+    {
+        match about {
+            Some(Object::Host(HostId(place))) => set_mark(&mut self.hosts, place as usize, on),
+            Some(Object::Service(ServiceId(place))) => {
+                set_mark(&mut self.services, place as usize, on);
+            }
+            None => {}
+        }
+    }
+
+    fn set_period(&mut self, name: &str, on: bool)
+        ensures hosts { self.new.hosts.items ≡ self.old.hosts.items }
+        ensures services { self.new.services.items ≡ self.old.services.items }
+        ensures names { self.new.names ≡ self.old.names }
+        ensures periods { self.new.periods.items
+            ≡ periods_with (arc_value self.old.names) name.now on self.old.periods.items }
+    {
+        if name.is_empty() {
+            return;
+        }
+        if let Some(place) = self.names.place_of(0, name) {
+            set_mark(&mut self.periods, place as usize, on);
+        }
+    }
+
+    /// Whether an object is flapping after a log.
+    pub(crate) fn is_flapping(&self, base: &Base, log: &[LogEntry], about: Object) -> bool
+        ensures { AreTold self.now base.now log.now
+            → result ≡ is_flapping base.now log.now about }
+    {
+        let mark = match about {
+            Object::Host(HostId(place)) => self.hosts.get(place as usize),
+            Object::Service(ServiceId(place)) => self.services.get(place as usize),
+        };
+        match mark {
+            Some(mark) => *mark,
+            None => is_flapping(base, log, about),
+        }
+    }
+
+    /// Whether the period with a name is on after a log.
+    pub(crate) fn is_period_on(&self, log: &[LogEntry], name: &str) -> bool
+        ensures { (base : Base) → AreTold self.now base log.now
+            → result ≡ is_period_on log.now name.now }
+    {
+        let Some(place) = self.names.place_of(0, name) else {
+            return is_period_on(log, name);
+        };
+        match self.periods.get(place as usize) {
+            Some(mark) => *mark,
+            None => is_period_on(log, name),
+        }
+    }
+
+    /// The same, in memory of its own but for the names. The only error is out of memory.
+    pub(crate) fn copy(&self, alloc: Global) -> Result<Self, Memory>
+        ensures { IfOk result (λ copy. (base : Base) (log : List LogEntry)
+            → AreTold self.now base log → AreTold copy base log) }
+    {
+        Ok(LastTold {
+            hosts: Vec::from_slice(alloc, &self.hosts)?,
+            services: Vec::from_slice(alloc, &self.services)?,
+            names: Arc::try_clone(&self.names)?,
+            periods: Vec::from_slice(alloc, &self.periods)?,
+        })
+    }
+}
+
+/// The names of the time periods of a base, and of those that its objects name, most of them once.
+fn period_names(alloc: Global, base: &Base) -> Result<NamedItems<PeriodName>, Memory> {
+    let mut names = Vec::new(alloc);
+    for period in base.periods.as_slice() {
+        push_name(&mut names, &period.timeperiod_name)?;
+    }
+    push_names_at(&mut names, base.hosts.as_slice())?;
+    push_names_at(&mut names, base.services.as_slice())?;
+    NamedItems::from_vec(alloc, names)
+}
+
+fn push_names_at<T: MonitoredObject>(
+    names: &mut Vec<PeriodName>,
+    items: &[T],
+) -> Result<(), Memory> {
+    for item in items {
+        push_name(names, &item.fields().notification_period)?;
+    }
+    Ok(())
+}
+
+/// How many names are compared with the next one.
+const LAST_NAMES: usize = 16;
+
+/// Adds a name, unless it is one of the last ones.
+fn push_name(names: &mut Vec<PeriodName>, name: &Text) -> Result<(), Memory> {
+    let last = names.len().saturating_sub(LAST_NAMES);
+    if names[last..].iter().any(|known| known.name == *name) {
+        return Ok(());
+    }
+    names.push(PeriodName {
+        name: name.clone()?,
+    })?;
+    Ok(())
+}
+
+/// So many marks that are all the same.
+fn marks(alloc: Global, count: usize, on: bool) -> Result<Vec<bool>, Memory>
+    ensures { IfOk result (λ marks. marks.items ≡ map (λ _. on) (range_with_len 0 count)) }
+{
+    (0..count).map(|_| on).collect(alloc)
+}
+
+/// Sets the mark at a place, where there is one.
+fn set_mark(marks: &mut [bool], place: usize, on: bool)
+    ensures { marks.new ≡ slice_set marks.old place on }
+{
+    if place < marks.len() {
+        marks[place] = on;
+    }
+}

@@ -1,0 +1,38 @@
+ghost use Rattle.std.specs.Prelude.{◌≡◌};
+ghost use Rattle.lq_log.specs.Types.{line_options, line_text, line_type};
+
+use crate::split::{parted, second_and_text};
+use lq_events::LogEntry;
+
+/// The type of a line: what stands before the first colon with a blank after it in the text that
+/// follows its second, or the whole text.
+pub fn line_type(entry: &LogEntry) -> &str
+    ensures { result.now ≡ line_type entry.now }
+{
+    let text = line_text(entry);
+    match parted(text) {
+        Some((name, _)) => name,
+        None => text,
+    }
+}
+
+/// The options of a line: what follows that colon and blank. Empty where there is none.
+pub fn line_options(entry: &LogEntry) -> &str
+    ensures { result.now ≡ line_options entry.now }
+{
+    match parted(line_text(entry)) {
+        Some((_, options)) => options,
+        None => "",
+    }
+}
+
+/// The text that follows a line's second.
+fn line_text(entry: &LogEntry) -> &str
+    ensures { result.now ≡ line_text entry.now }
+{
+    let line = entry.message.as_str();
+    match second_and_text(line) {
+        Some((_, text)) => text,
+        None => line,
+    }
+}

@@ -1,0 +1,271 @@
+ghost use Rattle.std.specs.Prelude.{◌≡◌, ◌<◌, ◌↔◌, ◌++◌, ◌∷◌, ℕ, List, [], Some, length, map, IfOk, IfSome, IsTrue, OnOk};
+ghost use Rattle.std.specs.List.{slice_get};
+ghost use Rattle.lq_records.specs.Contacts.{AreListsOf, IsIndexOf, lists_of};
+ghost use Rattle.lq_records.specs.Named.{host_named, service_on};
+ghost use Rattle.lq_records.specs.declared.base.ObjectFields.{ObjectFields};
+ghost use Rattle.lq_records.specs.declared.monitored.ContactLists.{ContactLists};
+
+use crate::Memory;
+use crate::base::{Host, ObjectFields, Service};
+use crate::ids::{ContactGroupId, ContactId, HostId, ServiceId};
+use crate::items::Items;
+use crate::named::{NamedItems, NamedObject};
+use std::alloc::{AllocError, Global};
+use std::marker::Model;
+
+/// A host or a service.
+pub trait MonitoredObject: NamedObject {
+    ghost fields_of: { Self → ObjectFields };
+
+    /// The directives that hosts and services share.
+    fn fields(&self) -> &ObjectFields
+        ensures { result.now ≡ fields_of self.now };
+}
+
+impl MonitoredObject for Host {
+    ghost fields_of = { λ host. host.fields };
+
+    fn fields(&self) -> &ObjectFields {
+        &self.fields
+    }
+}
+
+impl MonitoredObject for Service {
+    ghost fields_of = { λ service. service.fields };
+
+    fn fields(&self) -> &ObjectFields {
+        &self.fields
+    }
+}
+
+/// The contacts and the contact groups that an object names.
+#[derive(Drop)]
+pub struct ContactLists {
+    pub contacts: Items<ContactId>,
+    pub contact_groups: Items<ContactGroupId>,
+}
+
+impl ContactLists {
+    fn of(alloc: Global, fields: &ObjectFields) -> Result<Self, Memory>
+        ensures { IfOk result (λ lists. lists ≡ lists_of fields.now) }
+    {
+        Ok(ContactLists {
+            contacts: Items::from_vec(Vec::from_slice(alloc, fields.contacts.as_slice())?),
+            contact_groups: Items::from_vec(Vec::from_slice(
+                alloc,
+                fields.contact_groups.as_slice(),
+            )?),
+        })
+    }
+
+    /// Whether they are those of an object.
+    fn are_of(&self, fields: &ObjectFields) -> bool
+        ensures { IsTrue result → self.now ≡ lists_of fields.now }
+    {
+        self.contacts == fields.contacts && self.contact_groups == fields.contact_groups
+    }
+}
+
+/// The contacts of hosts or services where they lie close together: what a contact sees of many
+/// objects is found without a look at each.
+#[derive(Clone, Copy)]
+pub struct ContactIndex<'a> {
+    /// The lists that objects have, most of them once.
+    pub lists: &'a [ContactLists],
+    /// For each object, the place of its lists among these.
+    pub places: &'a [u32],
+    /// For each service, the place of its host.
+    pub owners: &'a [u32],
+}
+
+/// Hosts or services. Contracts see them as the list of them.
+#[derive(Drop)]
+pub struct MonitoredItems<T: MonitoredObject> {
+    items: NamedItems<T>,
+    contacts: Gathered,
+    owners: Vec<u32>,
+}
+
+impl<T: MonitoredObject> Model for MonitoredItems<T> {
+    ghost use Rattle.std.specs.Prelude.{◌≡◌, List, map};
+    ghost use Rattle.lq_records.specs.Contacts.{AreListsOf, lists_of};
+
+    ghost Value = { List T };
+
+    ghost view = { λ list. list.items };
+
+    ghost invariant = { λ list.
+        AreListsOf list.contacts.lists.items list.contacts.places.items
+        (map (λ item. lists_of (T.fields_of item)) list.items)
+        × (list.owners.items ≡ map T.owner_of list.items) };
+}
+
+impl<T: MonitoredObject> MonitoredItems<T> {
+    /// The items of a vector, in its order. The only error is that memory runs out.
+    pub fn from_vec(alloc: Global, items: Vec<T>) -> Result<Self, Memory>
+    where
+        T: Drop,
+        ensures { IfOk result (λ list. list ≡ items.items) }
+    {
+        let contacts = gather(alloc, &items)?;
+        let owners = owners_of(alloc, &items)?;
+        Ok(MonitoredItems {
+            items: NamedItems::from_vec(alloc, items)?,
+            contacts,
+            owners,
+        })
+    }
+
+    /// How many items it has.
+    pub fn len(&self) -> usize
+        ensures { result ≡ length self.now }
+    {
+        self.items.len()
+    }
+
+    /// Whether it has no item.
+    pub fn is_empty(&self) -> bool
+        ensures { IsTrue result ↔ (self.now ≡ []) }
+    {
+        self.items.is_empty()
+    }
+
+    /// The items, in order.
+    pub fn as_slice(&self) -> &[T]
+        ensures { result.now ≡ self.now }
+    {
+        self.items.as_slice()
+    }
+
+    /// Their contacts, and the places of their owners.
+    pub fn contact_index(&self) -> ContactIndex<'_>
+        ensures { IsIndexOf result (map (λ item. lists_of (T.fields_of item)) self.now)
+            (map T.owner_of self.now) }
+    {
+        ContactIndex {
+            lists: &self.contacts.lists,
+            places: &self.contacts.places,
+            owners: &self.owners,
+        }
+    }
+}
+
+impl MonitoredItems<Host> {
+    /// The first host with a name. None where no host has it.
+    pub fn find(&self, name: &str) -> Option<HostId>
+        ensures value { result ≡ host_named self.now name.now }
+        ensures within { IfSome result (λ id. id.0 < length self.now) }
+    {
+        self.items.find(name)
+    }
+}
+
+impl MonitoredItems<Service> {
+    /// The first service on a host with a description. None where no service has them.
+    pub fn find(&self, host: HostId, description: &str) -> Option<ServiceId>
+        ensures value { result ≡ service_on self.now host description.now }
+        ensures within { IfSome result (λ id. id.0 < length self.now) }
+    {
+        self.items.find(host, description)
+    }
+}
+
+/// The places of the owners of items.
+fn owners_of<T: MonitoredObject>(alloc: Global, items: &[T]) -> Result<Vec<u32>, Memory>
+    ensures { IfOk result (λ owners. owners.items ≡ map T.owner_of items.now) }
+{
+    items.iter().map(|item| item.owner()).collect(alloc)
+}
+
+// ---- lists of contacts that are kept once
+
+/// The lists of contacts of objects.
+#[derive(Drop)]
+struct Gathered {
+    lists: Vec<ContactLists>,
+    /// For each object, the place of its lists.
+    places: Vec<u32>,
+}
+
+/// How many hints there are where lists may be found again. Where objects differ in a few lists
+/// alone, most of them meet.
+const HINTS: usize = 1024;
+
+/// The most lists.
+const MOST_LISTS: usize = 0xFFFF_FFFF;
+
+/// The lists of contacts of all items.
+fn gather<T: MonitoredObject>(alloc: Global, items: &[T]) -> Result<Gathered, Memory>
+    ensures { IfOk result (λ all. AreListsOf all.lists.items all.places.items
+        (map (λ item. lists_of (T.fields_of item)) items.now)) }
+{
+    let mut all = Gathered {
+        lists: Vec::new(alloc),
+        places: Vec::new(alloc),
+    };
+    let mut hints = [0; HINTS];
+    for item in items {
+        let hint = hint_of(item.fields());
+        hints[hint] = all.add(alloc, item.fields(), hints[hint])?;
+    }
+    Ok(all)
+}
+
+impl Gathered {
+    /// Adds the lists of an object, and gives their place.
+    #[tactic(auto, using(crate::proofs::ContactLemmas::one_more))]
+    fn add(&mut self, alloc: Global, fields: &ObjectFields, hint: u32) -> Result<u32, Memory>
+        ensures { (objects : List ContactLists)
+            → AreListsOf self.old.lists.items self.old.places.items objects
+            → OnOk result (AreListsOf self.new.lists.items self.new.places.items
+            (objects ++ lists_of fields.now ∷ [])) }
+    {
+        let place = self.place_of(alloc, fields, hint)?;
+        self.places.push(place)?;
+        Ok(place)
+    }
+
+    /// The place of the lists of an object. They are added where they don't stand at the hint.
+    #[tactic(auto, using(crate::proofs::ContactLemmas::still_found, crate::proofs::ContactLemmas::last_found))]
+    fn place_of(&mut self, alloc: Global, fields: &ObjectFields, hint: u32) -> Result<u32, Memory>
+        ensures found { IfOk result
+            (λ place. slice_get self.new.lists.items place ≡ Some (lists_of fields.now)) }
+        ensures kept { (places : List ℕ) (objects : List ContactLists)
+            → AreListsOf self.old.lists.items places objects
+            → AreListsOf self.new.lists.items places objects }
+        ensures places { self.new.places.items ≡ self.old.places.items }
+    {
+        if self.has_at(fields, hint) {
+            return Ok(hint);
+        }
+        let place = self.lists.len();
+        if place > MOST_LISTS {
+            return Err(AllocError);
+        }
+        self.lists.push(ContactLists::of(alloc, fields)?)?;
+        Ok(place as u32)
+    }
+
+    /// Whether the lists of an object stand at a place.
+    fn has_at(&self, fields: &ObjectFields, place: u32) -> bool
+        ensures { IsTrue result
+            → slice_get self.now.lists.items place ≡ Some (lists_of fields.now) }
+    {
+        match self.lists.get(place as usize) {
+            Some(lists) => lists.are_of(fields),
+            None => false,
+        }
+    }
+}
+
+/// Where the lists of an object are hinted at: the same for the same lists.
+fn hint_of(fields: &ObjectFields) -> usize
+    ensures { result < HINTS }
+{
+    let contacts = fields.contacts.as_slice().iter().map(|id| id.0);
+    let groups = fields.contact_groups.as_slice().iter().map(|id| id.0);
+    let mixed = contacts
+        .chain(groups)
+        .fold(0_u32, |mixed, id| mixed.wrapping_mul(31).wrapping_add(id));
+    mixed as usize % HINTS
+}
