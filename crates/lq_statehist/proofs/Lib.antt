@@ -1,0 +1,11 @@
+mod AddLemmas
+mod FactLemmas
+mod HistoryLemmas
+mod JoinLemmas
+mod MergeLemmas
+mod OutputLemmas
+mod OwnLemmas
+mod PassLemmas
+mod ReadLemmas
+mod SortedLemmas
+mod WholeLemmas
