@@ -18,3 +18,5 @@ mod request;
 mod stats;
 #[cfg(test)]
 mod text;
+#[cfg(test)]
+mod workload;

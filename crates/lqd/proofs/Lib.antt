@@ -4,3 +4,5 @@ pub mod DigitLemmas
 pub mod ReportLemmas
 pub mod LoadLemmas
 pub mod OpenLemmas
+pub mod WorkloadLemmas
+pub mod NumberLemmas

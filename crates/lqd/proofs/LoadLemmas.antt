@@ -1,11 +1,9 @@
 -- A loaded object file gives its base or its fault, and a loaded log its entries or its fault.
-use Rattle.std.proofs.Common.{◌≡◌, ℕ, ◌<◌, ◌≤◌, nat_lt, true, false, Option, Some, None, IfSome, Result, Ok, Err, List, length, refl, ap, ◌∙◌, subst, arith}
+use Rattle.std.proofs.Common.{◌≡◌, ℕ, ◌<◌, ◌≤◌, nat_lt, true, false, Option, Some, None, IfSome, Ok, Err, List, length, refl, ap, ◌∙◌, subst, arith}
 use Rattle.std.specs.Prelude.{IsSomeAnd}
 use Rattle.lq_records.specs.declared.base.Base.{Base}
 use Rattle.lq_records.specs.declared.base.Rules.{Rules}
-use Rattle.lq_records.specs.Sound.{IsSound}
 use Rattle.lq_objects.specs.Objects.{base_of}
-use Rattle.lq_events.specs.declared.log_entry.LogEntry.{LogEntry}
 use Rattle.lq_log.specs.Log.{Log, log_of}
 use Rattle.lq_log.specs.declared.whole.LogErr.{LogErr}
 use Rattle.lqd.specs.Faults.{objects_limit, fault_of_base, fault_of_log, log_fault, objects_fault}

@@ -1,15 +1,10 @@
 -- What the run says where nothing opens a state.
-use Rattle.std.proofs.Common.{Bor, inl, inr, ◌⊎◌, ◌≡◌, ◌∙◌, ℕ, ◌≤◌, true, false, Option, Some, None, IfSome, List, refl, sym, ap, subst, arith, true≢false}
+use Rattle.std.proofs.Common.{Bor, inl, inr, ◌⊎◌, ◌≡◌, ◌∙◌, ℕ, Option, Some, None, IfSome, List, refl, sym, ap, true≢false}
 use Rattle.std.specs.Option.{is_some}
-use Rattle.std.specs.Prelude.{IsNone, IsSome, IsSomeAnd}
-use Rattle.lq_outside.specs.Faults.{Rose}
-use Rattle.lq_records.specs.declared.base.Base.{Base}
-use Rattle.lq_records.specs.declared.base.Rules.{Rules}
-use Rattle.lq_objects.specs.Objects.{base_of}
-use Rattle.lq_events.specs.declared.log_entry.LogEntry.{LogEntry}
+use Rattle.std.specs.Prelude.{IsSomeAnd}
 use Rattle.lqd.specs.CommandLine.{Wanted}
-use Rattle.lqd.specs.Faults.{end_text, log_fault, log_text, missing_text, objects_fault, objects_text, status_of, unreadable_text}
-use Rattle.lqd.specs.Run.{IsAccepted, IsReport, LoadsNoBase, LoadsNoLog, Misses, MustRefuse, MustRefuseLog, OpensLog, OpensNone, SaysBase, SaysLog, TellsFile, TellsLog, TellsObjects}
+use Rattle.lqd.specs.Faults.{end_text, log_text, missing_text, objects_text, status_of, unreadable_text}
+use Rattle.lqd.specs.Run.{IsAccepted, IsReport, LoadsNoLog, MustRefuse, MustRefuseLog, OpensNone, TellsFile, TellsLog, TellsObjects}
 use Rattle.lqd.specs.declared.fault.Fault.{Fault}
 use Rattle.lqd.specs.declared.fault.Fault.TheVariants as end
 use Rattle.lqd.specs.declared.fault.LogFault.{LogFault}

@@ -1,7 +1,9 @@
 -- What the words of a command line ask.
-use Rattle.std.specs.Prelude.{ℕ, ◌||◌, ◌==◌, Bool, true, false, not, Option, Some, None, List, [], ◌∷◌, bytes_eq, codes, slice_index, if◌then◌else◌}
-use Rattle.std.specs.List.{after_first, before_first}
+use Rattle.std.specs.Prelude.{ℕ, ◌||◌, ◌&&◌, ◌==◌, nat_le, nat_lt, Bool, true, false, not, Option, Some, None, is_none, List, [], ◌∷◌, bytes_eq, codes, length, slice_index, if◌then◌else◌}
+use Rattle.std.specs.Char.{is_ascii_digit}
+use Rattle.std.specs.List.{after_first, before_first, list_all}
 use Rattle.std.specs.Option.{is_some, option_and_then, option_map, option_map_or}
+use Rattle.lq_text.specs.Numbers.{number_of}
 use Rattle.lq_records.specs.declared.base.Rules.{Rules}
 use Rattle.lqd.specs.declared.command_line.Choice.{Choice}
 use Rattle.lqd.specs.declared.command_line.Choice.TheVariants as choice
@@ -71,14 +73,14 @@ line_of (word ∷ next ∷ words) =
     (choice_named word)
     (option_and_then (with_joined word) (line_of (next ∷ words)))
 
--- ---- the whole
+-- ---- one value and each option at most once
 
--- an object file, a log where one is to be read, and the rules by which contacts see services and
--- groups
-pub record Wanted : Type 0 where
-  pub path : List ℕ
+-- the one value that stands by itself, and the value of each option that stands
+pub record Given : Type 0 where
+  pub operand : List ℕ
   pub log : Option (List ℕ)
-  pub rules : Rules
+  pub service_auth : Option (List ℕ)
+  pub group_auth : Option (List ℕ)
 
 abbrev pub one : List (List ℕ) → Option (List ℕ)
 one (word ∷ []) = Some word
@@ -89,6 +91,30 @@ at_most_one [] = Some None
 at_most_one (word ∷ []) = Some (Some word)
 at_most_one _ = None
 
+abbrev pub all_of : Option (List ℕ) → Option (Option (List ℕ)) → Option (Option (List ℕ))
+    → Option (Option (List ℕ)) → Option Given
+all_of (Some operand) (Some log) (Some service_auth) (Some group_auth) = Some (record {
+  operand = operand;
+  log = log;
+  service_auth = service_auth;
+  group_auth = group_auth;
+})
+all_of _ _ _ _ = None
+
+abbrev pub given_of : Line → Option Given
+given_of line =
+    all_of (one line.operands) (at_most_one line.logs) (at_most_one line.service_auths)
+    (at_most_one line.group_auths)
+
+-- ---- `ask`
+
+-- an object file, a log where one is to be read, and the rules by which contacts see services and
+-- groups
+pub record Wanted : Type 0 where
+  pub path : List ℕ
+  pub log : Option (List ℕ)
+  pub rules : Rules
+
 -- whether a rule is strict, by the value of its option
 abbrev pub strictness_of : List ℕ → Option Bool
 strictness_of word =
@@ -96,29 +122,71 @@ strictness_of word =
     else if bytes_eq word (codes "loose") then Some false
     else None
 
--- by the values of its option; without one it is as usual
-abbrev pub rule : Bool → List (List ℕ) → Option Bool
-rule usually values =
-    option_and_then (λ value. option_map_or strictness_of value (Some usually)) (at_most_one values)
+-- without its option it is as usual
+abbrev pub rule : Bool → Option (List ℕ) → Option Bool
+rule usually value = option_map_or strictness_of value (Some usually)
 
-abbrev pub all_of : Option (List ℕ) → Option (Option (List ℕ)) → Option Bool → Option Bool
-    → Option Wanted
-all_of (Some path) (Some log) (Some service_strict) (Some group_strict) = Some (record {
-  path = path;
-  log = log;
+abbrev pub with_rules : Given → Option Bool → Option Bool → Option Wanted
+with_rules given (Some service_strict) (Some group_strict) = Some (record {
+  path = given.operand;
+  log = given.log;
   rules = record { service_strict = service_strict; group_strict = group_strict };
 })
-all_of _ _ _ _ = None
+with_rules _ _ _ = None
 
--- the object file is named once, and each option stands once at most; rules are loose for services
--- and strict for groups, where no option says else
-abbrev pub wanted_of : Line → Option Wanted
-wanted_of line =
-    all_of (one line.operands) (at_most_one line.logs) (rule false line.service_auths)
-    (rule true line.group_auths)
+-- the value is the path of the object file; rules are loose for services and strict for groups,
+-- where no option says else
+abbrev pub wanted_of : Given → Option Wanted
+wanted_of given = with_rules given (rule false given.service_auth) (rule true given.group_auth)
 
--- what `ask OBJECTS` asks, with its options; None where the words are outside the grammar
-abbrev pub asked_words : List (List ℕ) → Option Wanted
+-- ---- `load`
+
+-- the number that digits say, up to a largest one
+abbrev pub number_up_to : ℕ → List ℕ → Option ℕ
+number_up_to most digits =
+    if nat_lt 0 (length digits) && list_all is_ascii_digit digits && nat_le (number_of digits) most
+    then Some (number_of digits) else None
+
+-- the value is the workload's number, and no option stands
+abbrev pub load_of : Given → Option ℕ
+load_of given =
+    if is_none given.log && is_none given.service_auth && is_none given.group_auth
+    then number_up_to 1000000 given.operand else None
+
+-- ---- the whole
+
+-- what a command line asks: to serve a connection, or to run the workload of a number
+pub data Work : Type 0 where
+  Ask : Wanted → Work
+  Load : ℕ → Work
+
+abbrev pub given_by : List (List ℕ) → Option Given
+given_by words = option_and_then given_of (line_of words)
+
+-- what `ask OBJECTS` with its options or `load N` asks; None where the words are outside the
+-- grammar
+unfoldable pub asked_words : List (List ℕ) → Option Work
 asked_words [] = None
 asked_words (command ∷ words) =
-    if bytes_eq command (codes "ask") then option_and_then wanted_of (line_of words) else None
+    if bytes_eq command (codes "ask") then option_map Ask (option_and_then wanted_of (given_by words))
+    else if bytes_eq command (codes "load")
+    then option_map Load (option_and_then load_of (given_by words))
+    else None
+
+abbrev pub wanted_in : Option Work → Option Wanted
+wanted_in None = None
+wanted_in (Some (Ask wanted)) = Some wanted
+wanted_in (Some (Load number)) = None
+
+abbrev pub number_in : Option Work → Option ℕ
+number_in None = None
+number_in (Some (Ask wanted)) = None
+number_in (Some (Load number)) = Some number
+
+-- what `ask` asks, where the command is `ask`
+abbrev pub asked_connection : List (List ℕ) → Option Wanted
+asked_connection words = wanted_in (asked_words words)
+
+-- the number of `load`, where the command is `load`
+abbrev pub asked_load : List (List ℕ) → Option ℕ
+asked_load words = number_in (asked_words words)

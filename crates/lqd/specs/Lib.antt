@@ -5,3 +5,4 @@ pub mod Session
 pub mod Faults
 pub mod Run
 pub mod Words
+pub mod Load

@@ -6,17 +6,34 @@ use Rattle.lqd.specs.declared.command_line.Awaited.{Awaited}
 use Rattle.lqd.specs.declared.command_line.Awaited.TheVariants as awaited
 use Rattle.lqd.specs.declared.command_line.Choice.{Choice}
 use Rattle.lqd.specs.declared.command_line.Said.{Said}
-use Rattle.lqd.specs.CommandLine.{Line, Wanted, is_value, line_of, only_operands, wanted_of, with_value}
+use Rattle.lqd.specs.declared.command_line.Subcommand.{Subcommand}
+use Rattle.lqd.specs.declared.command_line.Subcommand.TheVariants as subcommand
+use Rattle.lqd.specs.declared.command_line.Values.{Values}
+use Rattle.lqd.specs.CommandLine.{Ask, Given, Line, Load, Wanted, Work, given_of, is_value, line_of, only_operands, with_value}
 
--- what the code has found
+-- ---- what the code has found
+
+abbrev pub given_by_values : Values → Given
+given_by_values values = record {
+  operand = values.operand.now;
+  log = option_copied values.log;
+  service_auth = option_copied values.service_auth;
+  group_auth = option_copied values.group_auth;
+}
+
 abbrev pub wanted_by : Asked → Wanted
 wanted_by asked =
     record { path = asked.path.now; log = option_copied asked.log; rules = asked.rules }
 
--- a line with what was read before it
+abbrev pub work_by : Subcommand → Work
+work_by (subcommand.Ask asked) = Ask (wanted_by asked)
+work_by (subcommand.Load number) = Load number
+
+-- ---- a line with what was read before it
+
 abbrev pub with_said : Said → Line → Line
 with_said said line = record {
-  operands = option_to_list (option_copied said.path) ++ line.operands;
+  operands = option_to_list (option_copied said.operand) ++ line.operands;
   logs = option_to_list (option_copied said.log) ++ line.logs;
   service_auths = option_to_list (option_copied said.service_auth) ++ line.service_auths;
   group_auths = option_to_list (option_copied said.group_auth) ++ line.group_auths;
@@ -34,9 +51,9 @@ later_line awaited.Any words = line_of words
 later_line (awaited.Value choice) words = value_line choice words
 later_line awaited.Operand words = Some (only_operands words)
 
--- what is asked by what was read and by the line of the words to come
-abbrev pub asked_before : Said → Option Line → Option Wanted
-asked_before said later = option_and_then (λ line. wanted_of (with_said said line)) later
+-- what is given by what was read and by the line of the words to come
+abbrev pub given_before : Said → Option Line → Option Given
+given_before said later = option_and_then (λ line. given_of (with_said said line)) later
 
-abbrev pub asked_with : Said → List (List ℕ) → Option Wanted
-asked_with said words = asked_before said (later_line said.awaited words)
+abbrev pub given_with : Said → List (List ℕ) → Option Given
+given_with said words = given_before said (later_line said.awaited words)

@@ -1,16 +1,29 @@
 ghost use Rattle.std.specs.Prelude.{◌≡◌, ◌⊎◌, ◌∷◌, ℕ, List, Some, [], map, string_bytes, IfErr};
 ghost use Rattle.std.specs.List.{before_first, after_first};
-ghost use Rattle.std.specs.Option.{option_and_then, option_copied, option_map, option_map_or};
-ghost use Rattle.lqd.specs.CommandLine.{asked_words, choice_named, is_equals, is_value, line_of, only_operands, strictness_of, with_joined, with_operand, with_value};
-ghost use Rattle.lqd.specs.Words.{asked_before, asked_with, later_line, wanted_by};
+ghost use Rattle.std.specs.Option.{option_and_then, option_copied, option_map};
+ghost use Rattle.lqd.specs.CommandLine.{asked_words, choice_named, given_by, is_equals, is_value, line_of, load_of, number_up_to, only_operands, rule, strictness_of, wanted_of, with_joined, with_operand, with_value};
+ghost use Rattle.lqd.specs.Words.{given_before, given_by_values, given_with, later_line, wanted_by, work_by};
 
 use crate::fault::Fault;
 use lq_records::Rules;
+use lq_text::read_u64;
 use std::env;
 use std::io::ErrorKind;
 use std::rt::Env;
 
 /// What the words of a command line ask.
+#[derive(Clone, Copy)]
+pub enum Subcommand<'a> {
+    /// `ask`: to serve a connection.
+    Ask(Asked<'a>),
+    /// `load`: to run the workload of a number.
+    Load(u64),
+}
+
+/// The greatest number of a workload.
+const MOST_LOAD: u64 = 1_000_000;
+
+/// What `ask` asks.
 #[derive(Clone, Copy)]
 pub struct Asked<'a> {
     /// The path of the object file.
@@ -43,10 +56,60 @@ enum Awaited {
     Operand,
 }
 
+/// What the words after the command say: the one value that stands by itself, and the value of each
+/// option that stands.
+#[derive(Clone, Copy)]
+struct Values<'a> {
+    operand: &'a str,
+    log: Option<&'a str>,
+    service_auth: Option<&'a str>,
+    group_auth: Option<&'a str>,
+}
+
+impl<'a> Values<'a> {
+    /// What `ask` asks by them, None where the value of an option isn't one that it takes.
+    fn asked(self) -> Option<Asked<'a>>
+        ensures { option_map wanted_by result ≡ wanted_of (given_by_values self.entry) }
+    {
+        Some(Asked {
+            path: self.operand,
+            log: self.log,
+            rules: Rules {
+                service_strict: rule(false, self.service_auth)?,
+                group_strict: rule(true, self.group_auth)?,
+            },
+        })
+    }
+
+    /// The number of the workload that `load` runs by them, None where it isn't one or an option
+    /// stands.
+    fn load_number(self) -> Option<u64>
+        ensures { result ≡ load_of (given_by_values self.entry) }
+    {
+        if self.log.is_none() && self.service_auth.is_none() && self.group_auth.is_none() {
+            load_number(self.operand)
+        } else {
+            None
+        }
+    }
+}
+
+/// The number of a workload, 0 to 1,000,000 in decimal digits.
+fn load_number(digits: &str) -> Option<u64>
+    ensures { result ≡ number_up_to 1000000 digits.now }
+{
+    let number = read_u64(digits.as_bytes())?;
+    if number <= MOST_LOAD {
+        Some(number)
+    } else {
+        None
+    }
+}
+
 /// What the words so far say.
 #[derive(Clone, Copy)]
 struct Said<'a> {
-    path: Option<&'a str>,
+    operand: Option<&'a str>,
     log: Option<&'a str>,
     service_auth: Option<&'a str>,
     group_auth: Option<&'a str>,
@@ -56,8 +119,8 @@ struct Said<'a> {
 impl<'a> Said<'a> {
     /// The same with one more word, None where it stands where it may not.
     fn with_word(self, word: &'a str) -> Option<Self>
-        ensures { (words : List (List ℕ)) → option_and_then (λ said. asked_with said words) result
-            ≡ asked_with self.entry (word.now ∷ words) }
+        ensures { (words : List (List ℕ)) → option_and_then (λ said. given_with said words) result
+            ≡ given_with self.entry (word.now ∷ words) }
     {
         match self.awaited {
             Awaited::Any => self.with_any(word),
@@ -70,8 +133,8 @@ impl<'a> Said<'a> {
     /// A word that may be an option or a value.
     fn with_any(self, word: &'a str) -> Option<Self>
         requires { self.awaited ≡ Awaited.Any }
-        ensures { (words : List (List ℕ)) → option_and_then (λ said. asked_with said words) result
-            ≡ asked_before self.entry (line_of (word.now ∷ words)) }
+        ensures { (words : List (List ℕ)) → option_and_then (λ said. given_with said words) result
+            ≡ given_before self.entry (line_of (word.now ∷ words)) }
     {
         if word == "--" {
             Some(self.with_awaited(Awaited::Operand))
@@ -86,22 +149,22 @@ impl<'a> Said<'a> {
     }
 
     fn with_awaited(self, awaited: Awaited) -> Self
-        ensures { (words : List (List ℕ)) → asked_with result words
-            ≡ asked_before self.entry (later_line awaited words) }
+        ensures { (words : List (List ℕ)) → given_with result words
+            ≡ given_before self.entry (later_line awaited words) }
     {
         Said { awaited, ..self }
     }
 
-    /// The object file is named once.
+    /// One value stands by itself.
     fn with_operand(self, word: &'a str) -> Option<Self>
-        ensures { (words : List (List ℕ)) → option_and_then (λ said. asked_with said words) result
-            ≡ asked_before self.entry
+        ensures { (words : List (List ℕ)) → option_and_then (λ said. given_with said words) result
+            ≡ given_before self.entry
             (option_map (with_operand word.now) (later_line self.entry.awaited words)) }
     {
-        match self.path {
+        match self.operand {
             Some(_) => None,
             None => Some(Said {
-                path: Some(word),
+                operand: Some(word),
                 ..self
             }),
         }
@@ -109,8 +172,8 @@ impl<'a> Said<'a> {
 
     /// An option with its value in one word.
     fn with_joined(self, word: &'a str) -> Option<Self>
-        ensures { (words : List (List ℕ)) → option_and_then (λ said. asked_with said words) result
-            ≡ asked_before self.entry (option_and_then (with_joined word.now) (line_of words)) }
+        ensures { (words : List (List ℕ)) → option_and_then (λ said. given_with said words) result
+            ≡ given_before self.entry (option_and_then (with_joined word.now) (line_of words)) }
     {
         match choice_named(before_equals(word)) {
             Some(choice) => self.with_value(choice, after_equals(word)),
@@ -120,8 +183,8 @@ impl<'a> Said<'a> {
 
     /// Each option stands once.
     fn with_value(self, choice: Choice, value: &'a str) -> Option<Self>
-        ensures { (words : List (List ℕ)) → option_and_then (λ said. asked_with said words) result
-            ≡ asked_before self.entry (option_map (with_value choice value.now) (line_of words)) }
+        ensures { (words : List (List ℕ)) → option_and_then (λ said. given_with said words) result
+            ≡ given_before self.entry (option_map (with_value choice value.now) (line_of words)) }
     {
         let awaited = Awaited::Any;
         match choice {
@@ -144,57 +207,67 @@ impl<'a> Said<'a> {
         }
     }
 
-    /// What the words ask, None where an option's value is missing or isn't one that it takes, or no
-    /// object file is named.
-    fn asked(self) -> Option<Asked<'a>>
-        ensures { option_map wanted_by result ≡ asked_with self.entry [] }
+    /// What the words give, None where an option's value is missing or no value stands by itself.
+    fn given(self) -> Option<Values<'a>>
+        ensures { option_map given_by_values result ≡ given_with self.entry [] }
     {
         match self.awaited {
             Awaited::Value(_) => None,
-            Awaited::Any | Awaited::Operand => self.asked_by_all(),
+            Awaited::Any | Awaited::Operand => self.given_by_all(),
         }
     }
 
-    fn asked_by_all(self) -> Option<Asked<'a>>
-        ensures { option_map wanted_by result
-            ≡ asked_before self.entry (Some (only_operands [])) }
+    fn given_by_all(self) -> Option<Values<'a>>
+        ensures { option_map given_by_values result
+            ≡ given_before self.entry (Some (only_operands [])) }
     {
-        Some(Asked {
-            path: self.path?,
+        Some(Values {
+            operand: self.operand?,
             log: self.log,
-            rules: Rules {
-                service_strict: rule(false, self.service_auth)?,
-                group_strict: rule(true, self.group_auth)?,
-            },
+            service_auth: self.service_auth,
+            group_auth: self.group_auth,
         })
     }
 }
 
-/// What the words ask: `ask OBJECTS`, and among what follows `ask` at most once each `--log FILE`,
-/// `--service-auth strict` or `loose`, and `--group-auth strict` or `loose`, the value after `=` or
-/// as a word of its own, and `--`, after which no option stands. A value that begins with `-`, and
-/// isn't `-` alone, has to stand after `=` or `--`. None where the words are outside this grammar.
-pub fn asked_words(words: &[String]) -> Option<Asked<'_>>
-    ensures { option_map wanted_by result ≡ asked_words (map string_bytes words.now) }
+/// What the words ask. None where they are outside this grammar:
+///
+/// - `ask OBJECTS`, and among what follows `ask` at most once each `--log FILE`, `--service-auth
+///   strict` or `loose`, and `--group-auth strict` or `loose`;
+/// - `load N`, where N is 0 to 1,000,000 in decimal digits, and no option.
+///
+/// The value of an option stands after `=` or as a word of its own. After `--` no option stands. A
+/// value that begins with `-`, and isn't `-` alone, has to stand after `=` or `--`.
+#[tactic(auto, unfolding(crate::specs::CommandLine::asked_words))]
+pub fn asked_words(words: &[String]) -> Option<Subcommand<'_>>
+    ensures { option_map work_by result ≡ asked_words (map string_bytes words.now) }
 {
     let (command, rest) = words.split_first()?;
-    if command.as_str() != "ask" {
-        return None;
+    match command.as_str() {
+        "ask" => Some(Subcommand::Ask(given_by(rest)?.asked()?)),
+        "load" => Some(Subcommand::Load(given_by(rest)?.load_number()?)),
+        _ => None,
     }
+}
+
+/// What the words after the command give.
+fn given_by(words: &[String]) -> Option<Values<'_>>
+    ensures { option_map given_by_values result ≡ given_by (map string_bytes words.now) }
+{
     let nothing = Said {
-        path: None,
+        operand: None,
         log: None,
         service_auth: None,
         group_auth: None,
         awaited: Awaited::Any,
     };
-    said_after(nothing, rest)?.asked()
+    said_after(nothing, words)?.given()
 }
 
 /// What words say after others.
 fn said_after<'a>(before: Said<'a>, words: &'a [String]) -> Option<Said<'a>>
-    ensures { option_and_then (λ said. asked_with said []) result
-        ≡ asked_with before.entry (map string_bytes words.now) }
+    ensures { option_and_then (λ said. given_with said []) result
+        ≡ given_with before.entry (map string_bytes words.now) }
 {
     let mut said = before;
     for word in words {
@@ -244,7 +317,7 @@ fn after_equals(word: &str) -> &str
 
 /// Whether a rule is strict, by the value of its option where one is given.
 fn rule(usually: bool, value: Option<&str>) -> Option<bool>
-    ensures { result ≡ option_map_or strictness_of (option_copied value.entry) (Some usually) }
+    ensures { result ≡ rule usually (option_copied value.entry) }
 {
     match value {
         Some(value) => strictness_of(value),

@@ -399,6 +399,49 @@ fn words_decide_what_is_done(rt: HostRuntime) -> Result<(), Fail> {
     Ok(())
 }
 
+/// The lines of two workloads, whose replies another program generated and counted.
+const LOAD_1_000_000: &[u8] =
+    b"hosts 100 services 1000 lines 2000 commands 50 queries 20 bytes 3431 sum 214491\n";
+
+const LOAD_7: &[u8] =
+    b"hosts 100 services 1000 lines 2000 commands 50 queries 20 bytes 2789 sum 174321\n";
+
+#[test]
+fn a_load_is_told_in_one_line(rt: HostRuntime) -> Result<(), Fail> {
+    let usage = b"usage: lqd ask|replay|serve|load\n".as_slice();
+    let cases: [(&[&str], (u8, &[u8], &[u8])); 15] = [
+        (&["load", "7"], (0, LOAD_7, b"")),
+        (&["load", "7"], (0, LOAD_7, b"")),
+        (&["load", "--", "0007"], (0, LOAD_7, b"")),
+        (&["load", "1000000"], (0, LOAD_1_000_000, b"")),
+        (&["load"], (1, b"", usage)),
+        (&["load", ""], (1, b"", usage)),
+        (&["load", "x"], (1, b"", usage)),
+        (&["load", "+7"], (1, b"", usage)),
+        (&["load", "7 "], (1, b"", usage)),
+        (&["load", "7", "7"], (1, b"", usage)),
+        (&["load", "--", "-7"], (1, b"", usage)),
+        (&["load", "1000001"], (1, b"", usage)),
+        (&["load", "18446744073709551623"], (1, b"", usage)),
+        (&["load", "7", "--log=l"], (1, b"", usage)),
+        (&["load", "--service-auth=loose", "7"], (1, b"", usage)),
+    ];
+    for (words, expected) in cases {
+        assert_run(&rt, words, &STEADY, QUERY, expected)?;
+    }
+    let full = Outside {
+        fail_write: &[0],
+        ..STEADY
+    };
+    assert_run(
+        &rt,
+        &["load", "7"],
+        &full,
+        QUERY,
+        (6, b"", b"write fault\n"),
+    )
+}
+
 /// The services, and then the host groups, that anna sees.
 const SEEN: &[u8] = b"GET services\nColumns: description\nAuthUser: anna\nKeepAlive: on\n
 GET hostgroups\nColumns: name members\nAuthUser: anna\n\n";

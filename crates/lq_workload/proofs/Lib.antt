@@ -1,0 +1,10 @@
+pub mod Steps
+pub mod ByteLemmas
+pub mod LineLemmas
+pub mod LogLemmas
+pub mod WordLemmas
+pub mod KindLemmas
+pub mod PartLemmas
+pub mod FileLemmas
+pub mod ObjectLemmas
+pub mod AcceptLemmas

@@ -1,0 +1,7 @@
+pub mod Draws
+pub mod Texts
+pub mod Objects
+pub mod Checks
+pub mod Queries
+pub mod Workload
+pub mod Accepted
