@@ -24,11 +24,12 @@ impl<S: Scan> Block<'_, S> {
     pub(crate) fn at(&self, place: usize) -> ScannedRow<'_, S>
         requires { place < length self.now.rows.now }
         ensures scan { result.scan.now ≡ self.now.scan.now }
-        ensures row { (other : S.Row) → result.row ≡ slice_index_or self.now.rows.now place other }
+        ensures row { (other : S.Row) → result.row.now
+            ≡ slice_index_or self.now.rows.now place other }
     {
         ScannedRow {
             scan: self.scan,
-            row: self.rows[place],
+            row: &self.rows[place],
         }
     }
 }

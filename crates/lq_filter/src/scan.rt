@@ -17,7 +17,7 @@ use std::alloc::Global;
 /// What tells the cells of many rows.
 pub trait Scan {
     /// What names a row.
-    type Row: Copy;
+    type Row;
 
     /// Which columns a row has.
     ghost has: { Self → Self.Row → Col → Type 0 };
@@ -26,25 +26,25 @@ pub trait Scan {
     ghost cell: { Self → Self.Row → Col → Value };
 
     /// The value of a row's column. The only error is out of memory.
-    fn get(&self, alloc: Global, row: Self::Row, c: Col) -> Result<Val<'_>, Memory>
-        requires { has self.now row c }
-        ensures { IfOk result (λ value. shown value ≡ cell self.now row c) };
+    fn get(&self, alloc: Global, row: &Self::Row, c: Col) -> Result<Val<'_>, Memory>
+        requires { has self.now row.now c }
+        ensures { IfOk result (λ value. shown value ≡ cell self.now row.now c) };
 
     /// The number in a row's column, where it is found without memory. It may be None for any
     /// column.
-    fn number(&self, row: Self::Row, c: Col) -> Option<i128>
-        ensures { IfSome result (λ number. cell self.now row c ≡ Number number) };
+    fn number(&self, row: &Self::Row, c: Col) -> Option<i128>
+        ensures { IfSome result (λ number. cell self.now row.now c ≡ Number number) };
 
     /// The text in a row's column, where it is borrowed as it stands. It may be None for any
     /// column.
-    fn text(&self, row: Self::Row, c: Col) -> Option<&str>
-        ensures { IfSome result (λ text. cell self.now row c ≡ Words text.now) };
+    fn text(&self, row: &Self::Row, c: Col) -> Option<&str>
+        ensures { IfSome result (λ text. cell self.now row.now c ≡ Words text.now) };
 
     /// Whether the list of texts in a row's column has an element, where that is found without
     /// memory. It may be None for any column.
-    fn contains(&self, row: Self::Row, c: Col, text: &str) -> Option<bool>
+    fn contains(&self, row: &Self::Row, c: Col, text: &str) -> Option<bool>
         ensures { IfSome result (λ found. (texts : List (List ℕ))
-            × (cell self.now row c ≡ Texts texts)
+            × (cell self.now row.now c ≡ Texts texts)
             × (found ≡ list_any (λ element. bytes_eq element text.now) texts)) }
     {
         None
@@ -109,13 +109,13 @@ pub trait Scan {
 #[derive(Drop)]
 pub(crate) struct ScannedRow<'s, S: Scan> {
     pub(crate) scan: &'s S,
-    pub(crate) row: S::Row,
+    pub(crate) row: &'s S::Row,
 }
 
 impl<S: Scan> Cells for ScannedRow<'_, S> {
-    ghost has = { λ at. S.has at.scan.now at.row };
+    ghost has = { λ at. S.has at.scan.now at.row.now };
 
-    ghost cell = { λ at. S.cell at.scan.now at.row };
+    ghost cell = { λ at. S.cell at.scan.now at.row.now };
 
     fn get(&self, alloc: Global, c: Col) -> Result<Val<'_>, Memory> {
         self.scan.get(alloc, self.row, c)

@@ -1,5 +1,7 @@
 //! The rows and the cells of a state, and what queries are answered.
 
+ghost use Rattle.std.specs.Prelude.{◌≡◌, ◌<◌};
+
 use crate::scarce::{Call, assert_late};
 use crate::site::{COUNT, is_answer, is_answered, large, live_of, request_of};
 use lq_auth::View;
@@ -7,10 +9,13 @@ use lq_columns::{host_value, names_of, service_value};
 use lq_live::Live;
 use lq_records::{HostGroupId, HostId, ServiceId, Text};
 use lq_request::Request;
-use lq_schema::{Col, Table, Val, column};
-use lq_tables::{Row, cell, rows};
+use lq_schema::{Col, Names, Table, Val, column};
+use lq_steps::Steps;
+use lq_tables::{Row, RowsErr, Window, cell, rows};
 use std::alloc::{AllocError, Global};
+use std::marker::Brand;
 use std::process::Abort;
+use std::sync::ledger::{Blank, Ledger};
 use std::test::Fail;
 
 /// What is asked of a large site.
@@ -41,7 +46,9 @@ impl Call for Query<'_> {
     fn make(&mut self, alloc: Global) -> Result<bool, AllocError> {
         let live = self.live;
         match self.asked {
-            Asked::Rows(table, count) => Ok(rows(alloc, live, table, &View::All)?.len() == count),
+            Asked::Rows(table, count) => {
+                Ok(row_count::<Brand>(alloc, live, table, Blank::new(1))? == count)
+            },
             Asked::Members(column) => has_members(alloc, live, column),
             Asked::Services(column) => {
                 Ok(are_names_in(
@@ -61,6 +68,30 @@ impl Call for Query<'_> {
                 Ok(view.sees_service(ServiceId(1_000)) && !view.sees_service(ServiceId(999)))
             },
         }
+    }
+}
+
+/// How many rows a table has, with the histories of one second.
+fn row_count<G: Ledger>(
+    alloc: Global,
+    live: &Live,
+    table: Table,
+    blank: Blank,
+) -> Result<usize, AllocError>
+    requires name { blank.name ≡ G.name }
+    requires parts { blank.parts ≡ G.parts }
+    requires some { 0 < blank.parts }
+{
+    let window = Window {
+        from: 0,
+        until: 1,
+        names: Names::none(alloc),
+    };
+    let mut steps = Steps::<G>::new(blank);
+    match rows(alloc, live, table, &window, &View::All, &mut steps) {
+        Ok(rows) => Ok(rows.len()),
+        Err(RowsErr::TooMany) => Ok(0),
+        Err(RowsErr::Memory) => Err(AllocError),
     }
 }
 
@@ -102,6 +133,7 @@ const TABLES: &[(&str, Table, usize)] = &[
         Table::ServicesByHostGroup,
         COUNT + 1,
     ),
+    ("rows of histories", Table::StateHist, COUNT + COUNT + 1),
 ];
 
 fn assert_rows<R: Abort + AllocGlobal>(rt: &R, live: &Live) -> Result<(), Fail> {

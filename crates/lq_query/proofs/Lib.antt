@@ -3,6 +3,7 @@ pub mod LineLemmas
 pub mod RowLemmas
 pub mod KeptLemmas
 pub mod ShownLemmas
+pub mod SliceLemmas
 pub mod SeenRowLemmas
 pub mod IsolationLemmas
 pub mod ToldLemmas

@@ -1,6 +1,6 @@
 -- Cells of what a view shows, at states that agree in it.
-use Rattle.std.proofs.Common.{◌≡◌, ℕ, ◌+◌, ◌<◌, ◌==◌, pos, Bool, true, false, ◌&&◌, ◌||◌, Option, Some, None, IfSome, List, [], ◌∷◌, length, map, filter, get_or, slice_get, refl, sym, ap, subst, arith, ◌∙◌}
-use Rattle.std.specs.List.{filter_map, list_any, range_with_len}
+use Rattle.std.proofs.Common.{◌≡◌, ℕ, ◌+◌, ◌<◌, Bool, true, false, ◌&&◌, ◌||◌, Option, Some, None, IfSome, List, [], ◌∷◌, length, map, filter, get_or, slice_get, refl, sym, ap, subst, arith, ◌∙◌}
+use Rattle.std.specs.List.{list_any}
 use Rattle.std.specs.Option.{option_and_then, option_map, option_map_or}
 use Rattle.std.proofs.lemmas.Bool.{eq-eqb, eqb-true}
 use Rattle.std.proofs.lemmas.List.Folds.{list_any_at}
@@ -202,7 +202,7 @@ module _ (s t : State) (view : View) (agree : AgreesIn view s (like s t)) where
   service_found id (Some service) (Some status) shown = shown
 
   -- the host of a service that is seen is shown
-  runs_on_shown : (id : ServiceId) (service : Service) → sees_service view id ≡ true → slice_get s.base.services id.0 ≡ Some service
+  pub runs_on_shown : (id : ServiceId) (service : Service) → sees_service view id ≡ true → slice_get s.base.services id.0 ≡ Some service
       → is_shown s.base view (object.Host service.host) ≡ true
   runs_on_shown id service sees is =
       let test : ℕ → Bool = λ place. sees_service_at view place && is_service_of s.base service.host place in

@@ -9,7 +9,7 @@ use Rattle.lq_records.specs.declared.object.Object.TheVariants as object
 use Rattle.lq_events.specs.declared.log_entry.Kind.{Kind}
 use Rattle.lq_events.specs.declared.log_entry.Kind.TheVariants as kind
 use Rattle.lq_events.specs.declared.log_entry.LogEntry.{LogEntry}
-use Rattle.lq_log.specs.LastTold.{flapping_in, flapping_told, is_flapping, is_period_on, last_told, period_in, period_of_kind, period_told}
+use Rattle.lq_log.specs.LastTold.{flapping_told, is_flapping, is_period_on, last_told, period_in, period_of_kind, period_told}
 use Rattle.lq_log.specs.Told.{object_named, object_of, subject_of, told_as, told_by}
 use Rattle.lq_auth.specs.Lines.{is_open, is_transition}
 use Rattle.lq_auth.specs.declared.view.View.{View}
@@ -50,7 +50,7 @@ other_object : (base : Base) (view : View) (about found : Object) (otherwise : B
 other_object base view about found otherwise true is shown hidden = absurd (true≢false (sym (shown_as base view about found is shown) ∙ hidden))
 other_object base view about found otherwise false is shown hidden = is
 
-hidden_about : (base : Base) (view : View) (about : Object) (of : Option Object) (otherwise : Bool) → is_shown base view about ≡ true
+pub hidden_about : (base : Base) (view : View) (about : Object) (of : Option Object) (otherwise : Bool) → is_shown base view about ≡ true
     → option_map_or (is_shown base view) of otherwise ≡ false → option_map_or (is_same_object about) of false ≡ false
 hidden_about base view about None otherwise shown hidden = refl
 hidden_about base view about (Some found) otherwise shown hidden = other_object base view about found otherwise (is_same_object about found) refl shown hidden

@@ -7,7 +7,9 @@ use Rattle.lq_schema.specs.Value.{Value}
 use Rattle.lq_tables.specs.Cells.{cell_of}
 use Rattle.lq_tables.specs.declared.row.Row.{Row}
 use Rattle.lq_query.specs.declared.sight.Sight.{Sight}
-use Rattle.lq_query.specs.Rows.{row_cells}
+use Rattle.lq_request.specs.declared.request.Request.{Request}
+use Rattle.lq_query.specs.Answer.{window_of}
+use Rattle.lq_query.specs.Rows.{row_cells, seen_rows}
 
 -- these cells follow in the open line
 pub record AddsCells (old new : Writing) (cells : List Value) : Type 0 where
@@ -39,6 +41,12 @@ IsTooLarge old lines =
 -- the values that a row has in the columns, at a state of which a query sees a part
 abbrev pub seen_cells : Sight → Row → Col → Value
 seen_cells sight = cell_of sight.live.now.state sight.view.now
+
+-- the rows of a query's table, as far as it sees them
+abbrev pub rows_in : Sight → Request → List (Col → Value)
+rows_in sight request =
+    seen_rows sight.live.now.state sight.view.now (window_of request sight.live.now.state)
+    request.table
 
 -- the rows that are marked
 abbrev pub marked : List Bool → List Row → List Row

@@ -9,10 +9,12 @@ use Rattle.lq_auth.specs.declared.view.View.{View}
 use Rattle.lq_live.specs.State.{State}
 use Rattle.lq_tables.specs.Rows.{rows_of}
 use Rattle.lq_tables.specs.Cells.{cell_of}
+use Rattle.lq_tables.specs.declared.window.Window.{Window}
 
--- the rows of a table that a query sees, in order, each as the values that it has in the columns
-abbrev pub seen_rows : State → View → Table → List (Col → Value)
-seen_rows s view table = map (cell_of s view) (rows_of s view table)
+-- the rows of a table that a query sees within a window, in order, each as the values that it has
+-- in the columns
+abbrev pub seen_rows : State → View → Window → Table → List (Col → Value)
+seen_rows s view window table = map (cell_of s view) (rows_of s view window table)
 
 -- the rows that the headers of a filter choose
 abbrev pub chosen : List Header → List (Col → Value) → List (Col → Value)

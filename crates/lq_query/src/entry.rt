@@ -1,7 +1,7 @@
 ghost use Rattle.std.specs.Prelude.{◌≡◌, IfOk, map};
 ghost use Rattle.lq_filter.specs.Trees.{holds, truth_on};
 ghost use Rattle.lq_filter.specs.declared.header.Header.{Header};
-ghost use Rattle.lq_schema.specs.Value.{Number};
+ghost use Rattle.lq_schema.specs.Value.{Number, shown};
 ghost use Rattle.lq_stats.specs.Columns.{column_cells};
 ghost use Rattle.lq_stats.specs.declared.cell.StatCell.TheVariants as cell;
 ghost use Rattle.lq_query.specs.Counting.{entry_of};
@@ -94,15 +94,15 @@ fn number_cells(
 {
     let mut numbers = Vec::with_capacity(alloc, rows.len())?;
     for row in rows {
-        numbers.push(row_cell(alloc, sight, *row, column)?)?;
+        numbers.push(row_cell(alloc, sight, row, column)?)?;
     }
     Ok(StatColumn::Numbers(numbers))
 }
 
 /// The number that a statistic takes of a row.
-fn row_cell(alloc: Global, sight: &Sight<'_>, row: Row, column: Col) -> Result<i128, Memory>
+fn row_cell(alloc: Global, sight: &Sight<'_>, row: &Row, column: Col) -> Result<i128, Memory>
     ensures { IfOk result (λ number.
-        cell.Number number ≡ number_cell (seen_cells sight.now row column)) }
+        cell.Number number ≡ number_cell (seen_cells sight.now row.now column)) }
 {
     match row_number(sight.live, row, column) {
         Some(number) => Ok(sized(number)),
@@ -112,13 +112,21 @@ fn row_cell(alloc: Global, sight: &Sight<'_>, row: Row, column: Col) -> Result<i
 
 /// The same for a number that isn't found without a value, as that of a counter.
 #[inline(never)]
-fn value_number(alloc: Global, sight: &Sight<'_>, row: Row, column: Col) -> Result<i128, Memory>
+fn value_number(alloc: Global, sight: &Sight<'_>, row: &Row, column: Col) -> Result<i128, Memory>
     ensures { IfOk result (λ number.
-        cell.Number number ≡ number_cell (seen_cells sight.now row column)) }
+        cell.Number number ≡ number_cell (seen_cells sight.now row.now column)) }
 {
-    match RowCells::of(sight.live, row, sight.view).value(alloc, column)? {
-        Val::Int(number) => Ok(sized(number)),
-        _ => Ok(0),
+    let value = RowCells::of(sight.live, row, sight.view).value(alloc, column)?;
+    Ok(number_of(&value))
+}
+
+/// The number that a value is, and 0 for any other.
+fn number_of(value: &Val<'_>) -> i128
+    ensures { cell.Number result ≡ number_cell (shown value.now) }
+{
+    match value {
+        Val::Int(number) => sized(*number),
+        _ => 0,
     }
 }
 

@@ -189,20 +189,20 @@ impl Page<'_> {
         for place in 0..rows.len() {
             if marks[place] {
                 take_cells(cells, place, &mut taken)?;
-                self.count_row(groups, rows[place], &taken)?;
+                self.count_row(groups, &rows[place], &taken)?;
             }
         }
         Ok(())
     }
 
     /// Counts a row, of which the statistics take these cells.
-    fn count_row(&self, groups: &mut Groups, row: Row, cells: &[StatCell]) -> Result<(), Memory>
+    fn count_row(&self, groups: &mut Groups, row: &Row, cells: &[StatCell]) -> Result<(), Memory>
         requires next { groups.old.next ≡ [] }
         requires keys { groups.old.spec.keys ≡ length self.now.columns.now }
         requires cells { AllZip IsCellOf groups.old.spec.entries cells.now }
         requires few { groups.old.count < 2 ^ 40 }
         ensures { OnOk result (Counts groups.old groups.new (record {
-          key = row_cells self.now.columns.now (seen_cells self.now.sight row);
+          key = row_cells self.now.columns.now (seen_cells self.now.sight row.now);
           cells = cells.now;
         } ∷ [])) }
     {

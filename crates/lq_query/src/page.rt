@@ -104,7 +104,7 @@ impl Page<'_> {
             rows.now) }
     {
         for row in rows {
-            self.push_row(writer, *row)?;
+            self.push_row(writer, row)?;
         }
         Ok(())
     }
@@ -182,7 +182,7 @@ impl Page<'_> {
     {
         for place in 0..rows.len() {
             if marks[place] {
-                self.push_next(writer, selection, rows[place])?;
+                self.push_next(writer, selection, &rows[place])?;
             }
         }
         Ok(())
@@ -193,15 +193,15 @@ impl Page<'_> {
         &self,
         writer: &mut Writer,
         selection: &mut Selection<'_>,
-        row: Row,
+        row: &Row,
     ) -> Result<(), WriteErr>
         requires { 0 < length self.now.columns.now }
         ensures lines { OnOk result (HasLines writer.old writer.new
             (first_rows self.now.columns.now selection.old.left
-            (seen_cells self.now.sight row ∷ []))) }
+            (seen_cells self.now.sight row.now ∷ []))) }
         ensures large { result ≡ Err TooLarge → IsTooLarge writer.old
             (first_rows self.now.columns.now selection.old.left
-            (seen_cells self.now.sight row ∷ [])) }
+            (seen_cells self.now.sight row.now ∷ [])) }
         ensures left { selection.new.left ≡ selection.old.left - 1 }
         ensures same { selection.new.filter ≡ selection.old.filter }
     {
@@ -213,19 +213,19 @@ impl Page<'_> {
     }
 
     /// Adds the line of a row.
-    fn push_row(&self, writer: &mut Writer, row: Row) -> Result<(), WriteErr>
+    fn push_row(&self, writer: &mut Writer, row: &Row) -> Result<(), WriteErr>
         requires { 0 < length self.now.columns.now }
         ensures lines { OnOk result (HasLines writer.old writer.new
-            (row_cells self.now.columns.now (seen_cells self.now.sight row) ∷ [])) }
+            (row_cells self.now.columns.now (seen_cells self.now.sight row.now) ∷ [])) }
         ensures large { result ≡ Err TooLarge → IsTooLarge writer.old
-            (row_cells self.now.columns.now (seen_cells self.now.sight row) ∷ []) }
+            (row_cells self.now.columns.now (seen_cells self.now.sight row.now) ∷ []) }
     {
         let cells = RowCells::of(self.sight.live, row, self.sight.view);
         self.push_cells(writer, &cells)
     }
 
     /// Adds the line of a row's cells.
-    fn push_cells(&self, writer: &mut Writer, cells: &RowCells<'_>) -> Result<(), WriteErr>
+    fn push_cells(&self, writer: &mut Writer, cells: &RowCells<'_, '_>) -> Result<(), WriteErr>
         requires { 0 < length self.now.columns.now }
         ensures lines { OnOk result (HasLines writer.old writer.new
             (row_cells self.now.columns.now
@@ -244,7 +244,7 @@ impl Page<'_> {
     fn push_cell(
         &self,
         writer: &mut Writer,
-        cells: &RowCells<'_>,
+        cells: &RowCells<'_, '_>,
         shown: &ShownColumn,
     ) -> Result<(), WriteErr>
         ensures ok { OnOk result (writer.new
@@ -274,7 +274,7 @@ impl Page<'_> {
     fn push_any(
         &self,
         writer: &mut Writer,
-        cells: &RowCells<'_>,
+        cells: &RowCells<'_, '_>,
         column: Col,
     ) -> Result<(), WriteErr>
         ensures ok { OnOk result (writer.new

@@ -1,26 +1,30 @@
-ghost use Rattle.std.specs.Prelude.{◌≡◌, ◌<◌, ◌≤◌, [], true, All, Err, IfOk, OnOk, length};
+ghost use Rattle.std.specs.Prelude.{◌≡◌, ◌<◌, ◌≤◌, [], true, All, Err, IfOk, OnOk, false, length, map};
 ghost use Rattle.std.specs.Option.{option_copied};
 ghost use Rattle.lq_auth.specs.Rights.{view_of};
 ghost use Rattle.lq_output.specs.Body.{body_limit};
 ghost use Rattle.lq_output.specs.declared.error.WriteErr.TheVariants.{TooLarge};
 ghost use Rattle.lq_request.specs.Reading.{ShowsCells};
 ghost use Rattle.lq_request.specs.Stats.{IsStat};
-ghost use Rattle.lq_query.specs.Answer.{answer_of, first_lines, headed, kept, line_of_names, reply_body, shown_lines, too_large, with_names};
-ghost use Rattle.lq_query.specs.Lines.{HasLines, IsTooLarge};
-ghost use Rattle.lq_query.specs.Rows.{chosen, seen_rows};
-ghost use Rattle.lq_output.specs.Header.{refusal_text};
+ghost use Rattle.lq_query.specs.Answer.{answer_of, are_too_many, first_lines, headed, large_reply, limited, line_of_names, reply_body, reply_with, shown_lines, with_names};
+ghost use Rattle.lq_query.specs.Lines.{HasLines, IsTooLarge, rows_in, seen_cells};
+ghost use Rattle.lq_query.specs.Rows.{chosen};
+ghost use Rattle.lq_tables.specs.declared.rows_err.RowsErr.TheVariants.{TooMany};
 
 use crate::column::shown_columns;
 use crate::line::push_names;
 use crate::page::Page;
 use crate::sight::Sight;
+use crate::window::window_of;
 use lq_auth::View;
 use lq_live::Live;
 use lq_output::{WriteErr, Writer, fixed16, refusal};
 use lq_records::{Items, Memory, Refusal, Text};
 use lq_request::Request;
-use lq_tables::rows;
+use lq_steps::Steps;
+use lq_tables::{Row, Rows, RowsErr, rows};
 use std::alloc::{AllocError, Global};
+use std::marker::Brand;
+use std::sync::ledger::{Blank, Ledger};
 
 /// The code of a reply that is given whole.
 const OK: u16 = 200;
@@ -31,7 +35,7 @@ const TOO_LARGE: u16 = 413;
 /// The reply to a query: its code, and the bytes that are written.
 #[derive(Drop)]
 pub struct Reply {
-    /// 200, or 413 where the body is too large.
+    /// 200, or 413 where the reply is too large.
     pub code: u16,
     /// The line of 16 bytes where the query asks for it, and the body, of 8,388,608 bytes at most;
     /// with 413 that line and a refusal, or nothing.
@@ -41,13 +45,75 @@ pub struct Reply {
 /// Answers a query that shows a column or a statistic: 200 and the line of names where the query
 /// asks for it, then a line for each row of the table that its user sees and its filter chooses, or
 /// with statistics for each group of these rows, as many as its limit says. 413 and `reply too
-/// large` where the body would have more than 8,388,608 bytes. The only error is out of memory.
+/// large` where the body would have more than 8,388,608 bytes, and where the histories of all that
+/// the user sees have more than 1,000,000 slices over the interval that is asked for, however few
+/// of them the filter chooses. The only error is out of memory.
 pub fn answer(alloc: Global, live: &Live, request: &Request) -> Result<Reply, Memory>
     requires cells { ShowsCells request.now }
     requires stats { All IsStat request.now.stats }
     ensures { IfOk result (λ reply. reply ≡ answer_of request.now live.now.state) }
 {
-    match body(alloc, live, request) {
+    let view = view_of(alloc, live, request)?;
+    seen_reply(alloc, &Sight { live, view: &view }, request)
+}
+
+/// The same by what the query sees.
+fn seen_reply(alloc: Global, sight: &Sight<'_>, request: &Request) -> Result<Reply, Memory>
+    requires cells { ShowsCells request.now }
+    requires stats { All IsStat request.now.stats }
+    ensures { IfOk result
+        (λ reply. reply ≡ reply_with request.now (rows_in sight.now request.now)) }
+{
+    match seen_rows::<Brand>(alloc, sight, request, Blank::new(1)) {
+        Ok(rows) => rows_reply(alloc, sight, request, rows.as_slice()),
+        Err(RowsErr::TooMany) => large_reply(alloc, request.fixed16),
+        Err(RowsErr::Memory) => Err(AllocError),
+    }
+}
+
+/// The rows of the query's table that it sees. `TooMany` exactly where they are too many.
+fn seen_rows<G: Ledger>(
+    alloc: Global,
+    sight: &Sight<'_>,
+    request: &Request,
+    blank: Blank,
+) -> Result<Rows, RowsErr>
+    requires name { blank.name ≡ G.name }
+    requires parts { blank.parts ≡ G.parts }
+    requires some { 0 < blank.parts }
+    ensures rows { IfOk result
+        (λ rows. map (seen_cells sight.now) rows ≡ rows_in sight.now request.now) }
+    ensures few { IfOk result (λ rows.
+        are_too_many request.now.table (rows_in sight.now request.now) ≡ false) }
+    ensures many { result ≡ Err TooMany
+        → are_too_many request.now.table (rows_in sight.now request.now) ≡ true }
+{
+    let window = window_of(alloc, sight.live, request)?;
+    let mut steps = Steps::<G>::new(blank);
+    rows(
+        alloc,
+        sight.live,
+        request.table,
+        &window,
+        sight.view,
+        &mut steps,
+    )
+}
+
+/// The reply that some rows make: the lines of those that the query's filter chooses, or of their
+/// groups.
+fn rows_reply(
+    alloc: Global,
+    sight: &Sight<'_>,
+    request: &Request,
+    rows: &[Row],
+) -> Result<Reply, Memory>
+    requires cells { ShowsCells request.now }
+    requires stats { All IsStat request.now.stats }
+    ensures { IfOk result (λ reply. reply ≡ limited request.now.fixed16
+        (reply_body request.now (map (seen_cells sight.now) rows.now))) }
+{
+    match body(alloc, sight, request, rows) {
         Ok(body) => whole_reply(alloc, request.fixed16, body),
         Err(WriteErr::TooLarge) => large_reply(alloc, request.fixed16),
         Err(WriteErr::Memory) => Err(AllocError),
@@ -55,17 +121,23 @@ pub fn answer(alloc: Global, live: &Live, request: &Request) -> Result<Reply, Me
 }
 
 /// The body of a reply. `TooLarge` exactly where it would have too many bytes.
-fn body(alloc: Global, live: &Live, request: &Request) -> Result<Items<u8>, WriteErr>
+fn body(
+    alloc: Global,
+    sight: &Sight<'_>,
+    request: &Request,
+    rows: &[Row],
+) -> Result<Items<u8>, WriteErr>
     requires cells { ShowsCells request.now }
     requires stats { All IsStat request.now.stats }
-    ensures body { IfOk result (λ body. body ≡ reply_body request.now live.now.state) }
+    ensures body { IfOk result
+        (λ body. body ≡ reply_body request.now (map (seen_cells sight.now) rows.now)) }
     ensures fits { IfOk result (λ body. length body ≤ body_limit) }
     ensures large { result ≡ Err TooLarge
-        → body_limit < length (reply_body request.now live.now.state) }
+        → body_limit < length (reply_body request.now (map (seen_cells sight.now) rows.now)) }
 {
     let mut writer = Writer::new(alloc, request.format, request.separators)?;
     push_head(alloc, &mut writer, request)?;
-    push_lines(alloc, &mut writer, live, request)?;
+    push_lines(alloc, &mut writer, sight, request, rows)?;
     writer.finish()
 }
 
@@ -88,47 +160,29 @@ fn push_head(alloc: Global, writer: &mut Writer, request: &Request) -> Result<()
 fn push_lines(
     alloc: Global,
     writer: &mut Writer,
-    live: &Live,
-    request: &Request,
-) -> Result<(), WriteErr>
-    requires cells { ShowsCells request.now }
-    requires stats { All IsStat request.now.stats }
-    ensures lines { OnOk result (HasLines writer.old writer.new (first_lines request.now.limit
-        (shown_lines request.now (kept request.now live.now.state)))) }
-    ensures large { result ≡ Err TooLarge → IsTooLarge writer.old (first_lines request.now.limit
-        (shown_lines request.now (kept request.now live.now.state))) }
-{
-    let view = view_of(alloc, live, request)?;
-    push_seen(alloc, writer, &Sight { live, view: &view }, request)
-}
-
-/// The same by what the query sees.
-fn push_seen(
-    alloc: Global,
-    writer: &mut Writer,
     sight: &Sight<'_>,
     request: &Request,
+    rows: &[Row],
 ) -> Result<(), WriteErr>
     requires cells { ShowsCells request.now }
     requires stats { All IsStat request.now.stats }
     ensures lines { OnOk result (HasLines writer.old writer.new (first_lines request.now.limit
         (shown_lines request.now (chosen request.now.filter
-        (seen_rows sight.now.live.now.state sight.now.view.now request.now.table))))) }
+        (map (seen_cells sight.now) rows.now))))) }
     ensures large { result ≡ Err TooLarge → IsTooLarge writer.old (first_lines request.now.limit
         (shown_lines request.now (chosen request.now.filter
-        (seen_rows sight.now.live.now.state sight.now.view.now request.now.table)))) }
+        (map (seen_cells sight.now) rows.now)))) }
 {
     let columns = shown_columns(alloc, request.columns.as_slice())?;
-    let rows = rows(alloc, sight.live, request.table, sight.view)?;
     let page = Page {
         alloc,
         sight: *sight,
         columns: &columns,
     };
     if request.stats.is_empty() {
-        page.push_shown(writer, request, rows.as_slice())
+        page.push_shown(writer, request, rows)
     } else {
-        page.push_groups(writer, request, rows.as_slice())
+        page.push_groups(writer, request, rows)
     }
 }
 
@@ -174,10 +228,9 @@ fn with_header(alloc: Global, body: Items<u8>) -> Result<Items<u8>, Memory>
     Ok(Items::from_vec(bytes))
 }
 
-/// The reply in place of a body that is too large.
+/// The reply in place of one that is too large.
 fn large_reply(alloc: Global, fixed16: bool) -> Result<Reply, Memory>
-    ensures { IfOk result
-        (λ reply. reply ≡ record { code = 413; bytes = refusal_text too_large fixed16 }) }
+    ensures { IfOk result (λ reply. reply ≡ large_reply fixed16) }
 {
     let refused = Refusal {
         code: TOO_LARGE,

@@ -31,9 +31,9 @@ pub(crate) trait RowTest {
     ghost met: { Self → Row → Bool };
 
     /// Whether a row meets the test, None for a row that the test isn't made for.
-    fn is_met(&self, row: Row) -> Option<bool>
+    fn is_met(&self, row: &Row) -> Option<bool>
         requires { made self.now }
-        ensures { IfSome result (λ is. is ≡ met self.now row) };
+        ensures { IfSome result (λ is. is ≡ met self.now row.now) };
 }
 
 /// Keeps the marks of the first rows that meet a test, up to one that the test isn't made for, and
@@ -47,7 +47,7 @@ pub(crate) fn keep_first<T: RowTest>(test: &T, rows: &[Row], marks: &mut [bool])
 {
     for (place, row) in rows.iter().enumerate() {
         if marks[place] {
-            let Some(met) = test.is_met(*row) else {
+            let Some(met) = test.is_met(row) else {
                 return place;
             };
             marks[place] = met;
@@ -71,7 +71,7 @@ impl RowTest for HostNumber<'_> {
         (own_cell test.sight.live.now.state test.sight.view.now row (own.Host test.column)) };
 
     #[inline]
-    fn is_met(&self, row: Row) -> Option<bool> {
+    fn is_met(&self, row: &Row) -> Option<bool> {
         match host_number(self.sight.live, row, self.column) {
             Some(number) => Some(self.check.is_met(number)),
             None => None,
@@ -94,7 +94,7 @@ impl RowTest for ServiceNumber<'_> {
         (own_cell test.sight.live.now.state test.sight.view.now row (own.Service test.column)) };
 
     #[inline]
-    fn is_met(&self, row: Row) -> Option<bool> {
+    fn is_met(&self, row: &Row) -> Option<bool> {
         match service_number(self.sight.live, row, self.column) {
             Some(number) => Some(self.check.is_met(number)),
             None => None,
@@ -120,7 +120,7 @@ impl RowTest for HostStatus<'_> {
         (own.Host (host_column.Status test.column))) };
 
     #[inline(always)]
-    fn is_met(&self, row: Row) -> Option<bool> {
+    fn is_met(&self, row: &Row) -> Option<bool> {
         match host_status_number(self.statuses, row, self.column) {
             Some(number) => Some(self.check.is_met(number)),
             None => None,
@@ -201,7 +201,7 @@ impl RowTest for ServiceStatus<'_> {
         (own.Service (service_column.Status test.column))) };
 
     #[inline(always)]
-    fn is_met(&self, row: Row) -> Option<bool> {
+    fn is_met(&self, row: &Row) -> Option<bool> {
         match service_status_number(self.statuses, row, self.column) {
             Some(number) => Some(self.check.is_met(number)),
             None => None,
@@ -281,7 +281,7 @@ impl RowTest for HostText<'_> {
         (own_cell test.sight.live.now.state test.sight.view.now row (own.Host test.column)) };
 
     #[inline]
-    fn is_met(&self, row: Row) -> Option<bool> {
+    fn is_met(&self, row: &Row) -> Option<bool> {
         match host_text(self.sight.live, row, self.column) {
             Some(text) => Some(self.check.is_met(text)),
             None => None,
@@ -304,7 +304,7 @@ impl RowTest for ServiceText<'_> {
         (own_cell test.sight.live.now.state test.sight.view.now row (own.Service test.column)) };
 
     #[inline]
-    fn is_met(&self, row: Row) -> Option<bool> {
+    fn is_met(&self, row: &Row) -> Option<bool> {
         match service_text(self.sight.live, row, self.column) {
             Some(text) => Some(self.check.is_met(text)),
             None => None,
@@ -346,7 +346,7 @@ impl RowTest for HostContact<'_> {
         (own.Host (host_column.Object object_column.Contacts))) };
 
     #[inline]
-    fn is_met(&self, row: Row) -> Option<bool> {
+    fn is_met(&self, row: &Row) -> Option<bool> {
         match host_lists_contact(self.sight.live, row, self.contact) {
             Some(found) => Some(self.check.is_met(found)),
             None => None,
@@ -388,7 +388,7 @@ impl RowTest for ServiceContact<'_> {
         (own.Service (service_column.Object object_column.Contacts))) };
 
     #[inline]
-    fn is_met(&self, row: Row) -> Option<bool> {
+    fn is_met(&self, row: &Row) -> Option<bool> {
         match service_lists_contact(self.sight.live, row, self.contact) {
             Some(found) => Some(self.check.is_met(found)),
             None => None,

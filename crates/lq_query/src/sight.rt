@@ -30,24 +30,24 @@ impl Scan for Sight<'_> {
 
     ghost cell = { λ sight row column. seen_cells sight row column };
 
-    fn get(&self, alloc: Global, row: Row, c: Col) -> Result<Val<'_>, Memory>
-        ensures { IfOk result (λ value. shown value ≡ seen_cells self.now row c) }
+    fn get(&self, alloc: Global, row: &Row, c: Col) -> Result<Val<'_>, Memory>
+        ensures { IfOk result (λ value. shown value ≡ seen_cells self.now row.now c) }
     {
         RowCells::of(self.live, row, self.view).value(alloc, c)
     }
 
     #[inline]
-    fn number(&self, row: Row, c: Col) -> Option<i128> {
+    fn number(&self, row: &Row, c: Col) -> Option<i128> {
         row_number(self.live, row, c)
     }
 
     #[inline]
-    fn text(&self, row: Row, c: Col) -> Option<&str> {
+    fn text(&self, row: &Row, c: Col) -> Option<&str> {
         row_text(self.live, row, c, self.view)
     }
 
     #[inline]
-    fn contains(&self, row: Row, c: Col, text: &str) -> Option<bool> {
+    fn contains(&self, row: &Row, c: Col, text: &str) -> Option<bool> {
         row_contains(self.live, row, c, text)
     }
 

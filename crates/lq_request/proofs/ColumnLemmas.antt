@@ -22,6 +22,7 @@ some_own subject.Period = omega arith
 some_own subject.Downtime = omega arith
 some_own subject.Comment = omega arith
 some_own subject.Line = omega arith
+some_own subject.Slice = omega arith
 some_own subject.Program = omega arith
 some_own subject.Schema = omega arith
 

@@ -2,6 +2,7 @@ pub mod ColumnLemmas
 pub mod CutLemmas
 pub mod EntryLemmas
 pub mod ExtentLemmas
+pub mod FilterLemmas
 pub mod FrontLemmas
 pub mod ListLemmas
 pub mod MessageLemmas
@@ -10,3 +11,4 @@ pub mod OrderLemmas
 pub mod PieceLemmas
 pub mod SearchLemmas
 pub mod TextLemmas
+pub mod WindowLemmas

@@ -1,20 +1,26 @@
 -- What the lines `Filter`, `And`, `Or` and `Negate` add to a query, or why one of them is refused.
-use Rattle.std.specs.Prelude.{ℕ, ◌+◌, ◌==◌, ◌&&◌, nat_le, nat_lt, not, Bool, Option, Some, None, Result, Ok, Err, List, [], ◌∷◌, ◌++◌, length, if◌then◌else◌}
+use Rattle.std.specs.Prelude.{ℕ, ◌≡◌, ◌+◌, ◌-◌, ◌==◌, ◌&&◌, nat_le, nat_lt, not, Bool, true, false, Option, Some, None, Result, Ok, Err}
+use Rattle.std.specs.Prelude.{List, [], ◌∷◌, ◌++◌, bytes_eq, codes, drop, length, reverse, take, if◌then◌else◌}
 use Rattle.std.specs.List.{after_first, before_first}
 use Rattle.lq_text.specs.Blanks.{is_blank, without_end, without_front}
 use Rattle.lq_schema.specs.Schema.{column_of}
 use Rattle.lq_schema.specs.declared.columns.Col.{Col}
+use Rattle.lq_schema.specs.declared.columns.OwnColumn.{OwnColumn}
+use Rattle.lq_schema.specs.declared.columns.OwnColumn.TheVariants as own
+use Rattle.lq_schema.specs.declared.columns.Prefix.{Prefix}
+use Rattle.lq_schema.specs.declared.columns.Prefix.TheVariants as prefix
 use Rattle.lq_schema.specs.declared.columns.Table.{Table}
+use Rattle.lq_schema.specs.declared.slice.SliceColumn.TheVariants as slice
 use Rattle.lq_filter.specs.Reading.{test_read}
 use Rattle.lq_filter.specs.Tests.{asks_for_pattern}
-use Rattle.lq_filter.specs.Trees.{height}
+use Rattle.lq_filter.specs.Trees.{height, truths}
 use Rattle.lq_filter.specs.declared.header.Header.{Header}
-use Rattle.lq_filter.specs.declared.header.Header.TheVariants as filter_header
 use Rattle.lq_filter.specs.declared.read.Test.{Test}
 use Rattle.lq_filter.specs.declared.read.TestErr.{TestErr}
 use Rattle.lq_filter.specs.declared.read.TestErr.TheVariants as err
 use Rattle.lq_request.specs.declared.reason.Reason.{Reason}
 use Rattle.lq_request.specs.declared.reason.Reason.TheVariants as reason
+use Rattle.lq_request.specs.Window.{has_history_time, headers_of}
 
 -- ---- the value of a `Filter` line
 
@@ -63,6 +69,28 @@ test_of table name words =
     if length words.operator == 0 then Err (reason.BadValue name)
     else test_on words (column_of table words.column)
 
+-- ---- the test of a `Filter` line
+
+abbrev pub is_own_slice_time : Prefix → OwnColumn → Bool
+is_own_slice_time prefix.Own (own.Slice slice.Time) = true
+is_own_slice_time _ _ = false
+
+-- whether a column is the time of a slice of a history
+abbrev pub is_slice_time : Option Col → Bool
+is_slice_time None = false
+is_slice_time (Some column) = is_own_slice_time column.prefix column.own
+
+-- whether a filter wants the time of a history to be another one than a number says
+abbrev pub excludes_time : Table → TestWords → Bool
+excludes_time table words =
+    bytes_eq words.operator (codes "!=") && is_slice_time (column_of table words.column)
+
+-- the test that a `Filter` line says on a table; an interval excludes no time between its bounds
+abbrev pub filter_test : Table → List ℕ → TestWords → Result Test Reason
+filter_test table name words =
+    if excludes_time table words then Err (reason.NotAllowed words.column)
+    else test_of table name words
+
 -- ---- patterns
 
 -- the most patterns that a query may have
@@ -77,20 +105,43 @@ patterns_with patterns test =
     else if nat_lt patterns most_patterns then Ok (patterns + 1)
     else Err reason.TooManyPatterns
 
--- ---- the headers of the filter
+-- ---- the filters that stand, each by its headers
 
-abbrev pub with_filter_header : List Header → Header → List Header
-with_filter_header headers header = headers ++ header ∷ []
+-- headers are so many filters: behind any others they add their own truths, and take none
+pub record AreWhole (headers : List Header) (count : ℕ) : Type 0 where
+  pub trees : height headers ≡ count
+  pub behind : (truth : Test → Bool) (before : List Header) →
+      truths truth (reverse headers ++ before)
+      ≡ truths truth (reverse headers) ++ truths truth before
 
--- `And` and `Or` join the last filters, one at least; no more than there are
-abbrev pub with_join : List ℕ → Bool → List Header → ℕ → Result (List Header) Reason
-with_join name any headers count =
-    if nat_lt 0 count && nat_le count (height headers)
-    then Ok (with_filter_header headers (filter_header.Join (record { count = count; any = any })))
-    else Err (reason.StackTooShort name)
+-- headers are one filter
+abbrev pub IsFilter : List Header → Type 0
+IsFilter headers = AreWhole headers 1
 
--- `Negate` turns the last filter
-abbrev pub with_negation : List ℕ → List Header → Result (List Header) Reason
-with_negation name headers =
-    if nat_lt 0 (height headers) then Ok (with_filter_header headers filter_header.Negate)
-    else Err (reason.StackTooShort name)
+-- what stands before the last so many, and those
+abbrev pub earlier : {A : Type 0} → List A → ℕ → List A
+earlier all count = take (length all - count) all
+
+abbrev pub latest : {A : Type 0} → List A → ℕ → List A
+latest all count = drop (length all - count) all
+
+-- the headers of the last filters, one at least and no more than there are; none of them may be one
+-- of the time of a history
+abbrev pub last_filters : List ℕ → List (List Header) → ℕ → Result (List Header) Reason
+last_filters name filters count =
+    if not (nat_lt 0 count && nat_le count (length filters)) then Err (reason.StackTooShort name)
+    else if has_history_time (latest filters count) then Err reason.TimeFilterInGroup
+    else Ok (headers_of (latest filters count))
+
+-- the last filters become one, which has their headers and behind them one more
+abbrev pub with_last_as_one : List (List Header) → ℕ → Header → Result (List Header) Reason
+    → Result (List (List Header)) Reason
+with_last_as_one filters count last (Err fault) = Err fault
+with_last_as_one filters count last (Ok headers) =
+    Ok (earlier filters count ++ (headers ++ last ∷ []) ∷ [])
+
+-- `And`, `Or` and `Negate` make the last filters one
+abbrev pub with_group :
+    List ℕ → List (List Header) → ℕ → Header → Result (List (List Header)) Reason
+with_group name filters count last =
+    with_last_as_one filters count last (last_filters name filters count)

@@ -10,7 +10,7 @@ use Rattle.lq_schema.specs.declared.columns.Table.{Table}
 use Rattle.lq_filter.specs.declared.header.Header.{Header}
 use Rattle.lq_filter.specs.declared.header.Header.TheVariants as filter_header
 use Rattle.lq_filter.specs.declared.read.Test.{Test}
-use Rattle.lq_request.specs.Filters.{patterns_with, test_of, test_words, with_filter_header, with_join, with_negation}
+use Rattle.lq_request.specs.Filters.{filter_test, patterns_with, test_of, test_words, with_group}
 use Rattle.lq_request.specs.Formats.{format_value, separators_value}
 use Rattle.lq_request.specs.Numbers.{number_value}
 use Rattle.lq_request.specs.Stats.{aggregate_entry, first_aggregate, with_joined, with_negated}
@@ -64,9 +64,9 @@ abbrev pub if_read : {V W : Type 0} → Result V Reason → (V → Result W Reas
 if_read (Err fault) later = Err fault
 if_read (Ok value) later = later value
 
--- the draft with other headers of its filter
-abbrev pub with_filter : Draft → Result (List Header) Reason → Result Draft Reason
-with_filter draft headers = draft_by headers (λ filter. record draft { filter = filter })
+-- the draft with other filters
+abbrev pub with_filters : Draft → Result (List (List Header)) Reason → Result Draft Reason
+with_filters draft all = draft_by all (λ filters. record draft { filters = filters })
 
 -- columns are added to those that earlier lines name
 abbrev pub with_columns : List ℕ → List ℕ → Draft → Result Draft Reason
@@ -76,22 +76,29 @@ with_columns name value draft =
       request = record draft.request { columns = draft.request.columns ++ more };
     })
 
--- a test is added to the filter
+-- a test is added to the filters
 abbrev pub with_test : Draft → Test → Result Draft Reason
 with_test draft test =
     draft_by (patterns_with draft.patterns test) (λ patterns. record draft {
-      filter = with_filter_header draft.filter (filter_header.Test test);
+      filters = draft.filters ++ (filter_header.Test test ∷ []) ∷ [];
       patterns = patterns;
     })
 
 abbrev pub with_test_value : List ℕ → List ℕ → Draft → Result Draft Reason
 with_test_value name value draft =
-    if_read (test_of draft.request.table name (test_words value)) (with_test draft)
+    if_read (filter_test draft.request.table name (test_words value)) (with_test draft)
 
 -- the last filters are joined
 abbrev pub with_join_value : List ℕ → Bool → List ℕ → Draft → Result Draft Reason
 with_join_value name any value draft =
-    with_filter draft (if_read (number_value name value) (with_join name any draft.filter))
+    with_filters draft (if_read (number_value name value) (λ count.
+    with_group name draft.filters count
+    (filter_header.Join (record { count = count; any = any }))))
+
+-- the last filter is turned
+abbrev pub with_negation : List ℕ → Draft → Result Draft Reason
+with_negation name draft =
+    with_filters draft (with_group name draft.filters 1 filter_header.Negate)
 
 -- an entry is added to the statistics
 abbrev pub with_entry : Draft → Result StatDraft Reason → Result Draft Reason
@@ -138,8 +145,7 @@ with_header name value draft =
     else if bytes_eq name (codes "Filter") then with_test_value name value draft
     else if bytes_eq name (codes "And") then with_join_value name false value draft
     else if bytes_eq name (codes "Or") then with_join_value name true value draft
-    else if bytes_eq name (codes "Negate")
-    then with_filter draft (with_negation name draft.filter)
+    else if bytes_eq name (codes "Negate") then with_negation name draft
     else if bytes_eq name (codes "Stats") then with_stats_value name value draft
     else if bytes_eq name (codes "StatsAnd") then with_stats_join name false value draft
     else if bytes_eq name (codes "StatsOr") then with_stats_join name true value draft

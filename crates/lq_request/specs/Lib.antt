@@ -11,4 +11,5 @@ pub mod Request
 pub mod Search
 pub mod Stats
 pub mod Style
+pub mod Window
 pub mod Words

@@ -5,6 +5,7 @@ use Rattle.lq_text.specs.Lines.{lines_of}
 use Rattle.lq_text.specs.Blanks.{words_of}
 use Rattle.lq_schema.specs.Schema.{table_of, columns_of}
 use Rattle.lq_schema.specs.declared.columns.Table.{Table}
+use Rattle.lq_schema.specs.declared.names.Names.{Names}
 use Rattle.lq_records.specs.Formats.{usual_separators}
 use Rattle.lq_records.specs.declared.format.Format.TheVariants as format
 use Rattle.lq_records.specs.declared.refusal.Refusal.{Refusal}
@@ -17,6 +18,8 @@ use Rattle.lq_request.specs.Headers.{header_lines}
 use Rattle.lq_request.specs.Reasons.{refusal_of}
 use Rattle.lq_request.specs.Stats.{entry_of}
 use Rattle.lq_request.specs.Style.{style_of}
+use Rattle.lq_request.specs.Window.{bounds_of, interval_of, tested, whole_interval}
+use Rattle.lq_request.specs.declared.time.Interval.{Interval}
 
 -- ---- the first line
 
@@ -40,6 +43,10 @@ first_line line = if is_utf8 line then first_words (words_of line) else Err reas
 
 -- ---- a message
 
+-- no name is fixed
+abbrev pub no_names : Names
+no_names = record { own = []; host = []; service = [] }
+
 -- a query of a table without header lines
 abbrev pub plain : Style → Table → Draft
 plain style table = record {
@@ -55,9 +62,12 @@ plain style table = record {
     fixed16 = style.fixed16;
     keep = style.keep;
     user = None;
+    from = whole_interval.from;
+    until = whole_interval.until;
+    names = no_names;
   };
   names = None;
-  filter = [];
+  filters = [];
   stats = [];
   patterns = 0;
 }
@@ -66,20 +76,33 @@ plain style table = record {
 abbrev pub shows_all : Draft → Bool
 shows_all draft = length draft.request.columns == 0 && length draft.stats == 0
 
--- The request of a query that is read whole. Where no line names columns or statistics, all columns
--- are shown, and the names are written unless a switch says otherwise; where one does, they are
--- written where a switch says so.
-abbrev pub finished : Draft → Request
-finished draft = record draft.request {
+-- The request of a query that is read whole and asks for an interval of time. Where no line names
+-- columns or statistics, all columns are shown, and the names are written unless a switch says
+-- otherwise; where one does, they are written where a switch says so.
+abbrev pub finished_in : Draft → Interval → Request
+finished_in draft interval = record draft.request {
   columns = if shows_all draft then columns_of draft.request.table else draft.request.columns;
   head = unwrap_or draft.names (shows_all draft);
-  filter = draft.filter;
+  filter = tested draft.filters;
   stats = map entry_of draft.stats;
+  from = interval.from;
+  until = interval.until;
+  names = no_names;
 }
+
+abbrev pub finished_by : Draft → Result Interval Reason → Result Request Reason
+finished_by draft (Err fault) = Err fault
+finished_by draft (Ok interval) = Ok (finished_in draft interval)
+
+-- the request of a query that is read whole, or why it is refused after all
+abbrev pub finished : Draft → Result Request Reason
+finished draft =
+    finished_by draft
+    (interval_of draft.request.table (bounds_of draft.request.table draft.filters))
 
 abbrev pub asked_headers : Result Draft Reason → Result Request Reason
 asked_headers (Err fault) = Err fault
-asked_headers (Ok draft) = Ok (finished draft)
+asked_headers (Ok draft) = finished draft
 
 abbrev pub asked_table : Style → List (List ℕ) → Result Table Reason → Result Request Reason
 asked_table style headers (Err fault) = Err fault

@@ -1,7 +1,7 @@
 -- What the lines `Stats`, `StatsAnd`, `StatsOr` and `StatsNegate` add to a query, or why one of
 -- them is refused.
-use Rattle.std.specs.Prelude.{ℕ, ◌≡◌, ◌≢◌, ◌-◌, ◌&&◌, nat_le, nat_lt, Bool, Option, Some, None, ok_or, option_map, Result, Ok, Err}
-use Rattle.std.specs.Prelude.{List, [], ◌∷◌, ◌++◌, length, take, drop, bytes_eq, codes, if◌then◌else◌}
+use Rattle.std.specs.Prelude.{ℕ, ◌≡◌, ◌≢◌, ◌&&◌, nat_le, nat_lt, Bool, Option, Some, None, ok_or, option_map, Result, Ok, Err}
+use Rattle.std.specs.Prelude.{List, [], ◌∷◌, ◌++◌, length, bytes_eq, codes, if◌then◌else◌}
 use Rattle.lq_filter.specs.Trees.{height}
 use Rattle.lq_filter.specs.declared.header.Header.{Header}
 use Rattle.lq_filter.specs.declared.header.Header.TheVariants as header
@@ -21,6 +21,7 @@ use Rattle.lq_request.specs.declared.entry.StatEntry.{StatEntry}
 use Rattle.lq_request.specs.declared.entry.StatEntry.TheVariants as entry
 use Rattle.lq_request.specs.declared.reason.Reason.{Reason}
 use Rattle.lq_request.specs.declared.reason.Reason.TheVariants as reason
+use Rattle.lq_request.specs.Filters.{earlier, latest}
 
 -- ---- entries
 
@@ -104,13 +105,6 @@ counted [] = Some []
 counted (draft.Count headers ∷ entries) =
     option_map (λ later. headers ++ later) (counted entries)
 counted (draft.Over kind column ∷ entries) = None
-
--- the entries before the last so many, and those
-abbrev pub earlier : List StatDraft → ℕ → List StatDraft
-earlier entries count = take (length entries - count) entries
-
-abbrev pub latest : List StatDraft → ℕ → List StatDraft
-latest entries count = drop (length entries - count) entries
 
 -- the headers of the last entries, one at least and no more than there are, where each counts
 abbrev pub last_counted : List ℕ → List StatDraft → ℕ → Result (List Header) Reason

@@ -1,8 +1,9 @@
 ghost use Rattle.std.specs.Prelude.{◌≡◌, ◌==◌, ◌<◌, All, [], ◌∷◌, ◌++◌, IfOk, IfSome, OnErr, OnOk, length, map};
 ghost use Rattle.lq_filter.specs.declared.header.Header.TheVariants as header;
 ghost use Rattle.lq_filter.specs.Trees.{height};
+ghost use Rattle.lq_request.specs.Filters.{earlier};
 ghost use Rattle.lq_request.specs.Reading.{Finds, Leaves};
-ghost use Rattle.lq_request.specs.Stats.{IsAggregate, IsEntry, IsStat, counted, earlier, entry_of};
+ghost use Rattle.lq_request.specs.Stats.{IsAggregate, IsEntry, IsStat, counted, entry_of};
 ghost use Rattle.lq_request.specs.Stats.{last_counted, with_joined, with_negated};
 
 use crate::fault::Fault;

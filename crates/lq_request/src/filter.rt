@@ -1,6 +1,7 @@
 ghost use Rattle.std.specs.Prelude.{◌≡◌};
-ghost use Rattle.lq_request.specs.Filters.{patterns_with, test_of, test_words, with_negation};
-ghost use Rattle.lq_request.specs.Headers.{with_filter, with_join_value, with_test_value};
+ghost use Rattle.lq_request.specs.Filters.{excludes_time, filter_test, is_slice_time};
+ghost use Rattle.lq_request.specs.Filters.{patterns_with, test_of, test_words};
+ghost use Rattle.lq_request.specs.Headers.{with_join_value, with_negation, with_test_value};
 ghost use Rattle.lq_request.specs.Reading.{Finds, Leaves};
 
 use crate::fault::Fault;
@@ -8,9 +9,9 @@ use crate::header::Draft;
 use crate::number::number_value;
 use crate::reason::Reason;
 use crate::words::{split_word, without_end, without_front};
-use lq_filter::{StackErr, Test, TestErr};
+use lq_filter::{Test, TestErr};
 use lq_records::Text;
-use lq_schema::{Table, column};
+use lq_schema::{Col, OwnColumn, Prefix, SliceColumn, Table, column};
 use std::alloc::Global;
 use std::marker::Model;
 
@@ -51,6 +52,24 @@ impl<'a> TestWords<'a> {
         }
     }
 
+    /// The test that the words of a `Filter` line say on a table, whose header has this name. The
+    /// time of a history can't be excluded by `!=`.
+    fn filter(&self, alloc: Global, table: Table, name: &str) -> Result<Test, Fault>
+        ensures { Finds result (filter_test table name.now self.now) }
+    {
+        if self.excludes_time(table) {
+            return Err(Fault::Refused(Reason::NotAllowed(Text::new(alloc, self.column)?)));
+        }
+        self.test(alloc, table, name)
+    }
+
+    /// Whether they want the time of a history to be another one.
+    fn excludes_time(&self, table: Table) -> bool
+        ensures { result ≡ excludes_time table self.now }
+    {
+        self.operator == "!=" && is_slice_time(column(table, self.column))
+    }
+
     /// The test that the words of the header with this name say on a table.
     fn test(&self, alloc: Global, table: Table, name: &str) -> Result<Test, Fault>
         ensures { Finds result (test_of table name.now self.now) }
@@ -82,6 +101,19 @@ pub fn test_value(alloc: Global, table: Table, name: &str, value: &str) -> Resul
     TestWords::of(value).test(alloc, table, name)
 }
 
+/// Whether a column is the time of a slice of a history.
+fn is_slice_time(column: Option<Col>) -> bool
+    ensures { result ≡ is_slice_time column }
+{
+    matches!(
+        column,
+        Some(Col {
+            prefix: Prefix::Own,
+            own: OwnColumn::Slice(SliceColumn::Time),
+        })
+    )
+}
+
 /// How many patterns a query has with one more test.
 pub fn patterns_with(patterns: usize, test: &Test) -> Result<usize, Fault>
     ensures { Finds result (patterns_with patterns test.now) }
@@ -101,9 +133,9 @@ impl Draft {
     pub(crate) fn add_test(&mut self, alloc: Global, name: &str, value: &str) -> Result<(), Fault>
         ensures { Leaves result self.new (with_test_value name.now value.now self.old) }
     {
-        let test = test_value(alloc, self.request.table, name, value)?;
+        let test = TestWords::of(value).filter(alloc, self.request.table, name)?;
         self.patterns = patterns_with(self.patterns, &test)?;
-        self.filter.push(test)?;
+        self.filters.push(alloc, test)?;
         Ok(())
     }
 
@@ -118,26 +150,13 @@ impl Draft {
         ensures { Leaves result self.new (with_join_value name.now any value.now self.old) }
     {
         let count = number_value(alloc, name, value)?;
-        match self.filter.join(count, any) {
-            Ok(()) => Ok(()),
-            Err(StackErr::TooShort) => {
-                Err(Fault::Refused(Reason::StackTooShort(Text::new(alloc, name)?)))
-            }
-            Err(StackErr::Memory) => Err(Fault::Memory),
-        }
+        self.filters.join(alloc, name, any, count)
     }
 
     /// Makes the last filter its opposite.
     pub(crate) fn negate(&mut self, alloc: Global, name: &str) -> Result<(), Fault>
-        ensures { Leaves result self.new
-            (with_filter self.old (with_negation name.now self.old.filter)) }
+        ensures { Leaves result self.new (with_negation name.now self.old) }
     {
-        match self.filter.negate() {
-            Ok(()) => Ok(()),
-            Err(StackErr::TooShort) => {
-                Err(Fault::Refused(Reason::StackTooShort(Text::new(alloc, name)?)))
-            }
-            Err(StackErr::Memory) => Err(Fault::Memory),
-        }
+        self.filters.negate(alloc, name)
     }
 }

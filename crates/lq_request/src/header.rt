@@ -9,13 +9,13 @@ ghost use Rattle.lq_request.specs.Style.{is_colon};
 
 use crate::entry::Entries;
 use crate::fault::{Fault, well_formed};
+use crate::filters::Filters;
 use crate::format::{format_value, separators_value};
 use crate::number::number_value;
 use crate::reason::Reason;
 use crate::request::Request;
 use crate::style::{colon_place, switch_value};
 use crate::words::{as_text, is_text, without_end, without_front, words_of};
-use lq_filter::Stack;
 use lq_records::{Items, Memory, Text};
 use lq_schema::{Col, Table, column};
 use lq_text::next_line;
@@ -28,12 +28,13 @@ pub const MOST_HEADERS: usize = 256;
 /// ones that they name, and what they say of the line of names.
 #[derive(Drop)]
 pub struct Draft {
-    /// The request. Its fields `head`, `filter` and `stats` say nothing yet.
+    /// The request. Its fields `head`, `filter`, `stats`, `from`, `until` and `names` say nothing
+    /// yet.
     pub request: Request,
     /// Whether a line of the columns' names comes first, None where no line speaks of it.
     pub names: Option<bool>,
-    /// The headers of the filter so far.
-    pub filter: Stack,
+    /// The filters that stand so far.
+    pub filters: Filters,
     /// The entries of the statistics so far.
     pub stats: Entries,
     /// How many patterns the lines so far look for.

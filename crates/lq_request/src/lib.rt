@@ -7,6 +7,7 @@ mod entry;
 mod extent;
 mod fault;
 mod filter;
+mod filters;
 mod format;
 mod header;
 mod number;
@@ -14,6 +15,7 @@ mod reason;
 mod request;
 mod stats;
 mod style;
+mod time;
 mod words;
 
 pub use cut::{Cut, Cutting, MESSAGE_LIMIT};

@@ -44,6 +44,10 @@ pub enum Reason {
     StackTooShort(Text),
     /// The header with this name takes an entry that is an aggregate.
     AggregateIn(Text),
+    /// A header takes a filter of the time of a history.
+    TimeFilterInGroup,
+    /// No filter says when a history begins.
+    TimeFilterMissing,
 }
 
 /// A refusal by its parts: its code, the front of its text, and the word that follows it.
@@ -78,6 +82,8 @@ impl Reason {
             Reason::TooManyPatterns => Parts(400, "too many patterns", ""),
             Reason::StackTooShort(name) => Parts(400, "stack too short for ", name.as_str()),
             Reason::AggregateIn(name) => Parts(400, "aggregate in ", name.as_str()),
+            Reason::TimeFilterInGroup => Parts(400, "time filter inside a group", ""),
+            Reason::TimeFilterMissing => Parts(400, "time filter missing", ""),
         }
     }
 

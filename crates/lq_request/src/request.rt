@@ -4,20 +4,23 @@ ghost use Rattle.std.specs.Str.{IsUtf8};
 ghost use Rattle.lq_text.specs.Lines.{lines_of};
 ghost use Rattle.lq_schema.specs.Schema.{columns_of};
 ghost use Rattle.lq_request.specs.Headers.{header_lines};
-ghost use Rattle.lq_request.specs.Reading.{Finds, HasCode, Reads, ShowsCells};
+ghost use Rattle.lq_request.specs.Reading.{Finds, FixesNoName, HasChosenLines, HasCode, HasEnd};
+ghost use Rattle.lq_request.specs.Reading.{HasTimes, Reads, ShowsCells};
 ghost use Rattle.lq_request.specs.Request.{asked, asked_headers, asked_in, finished, first_line, plain};
 ghost use Rattle.lq_request.specs.Request.{table_of_words};
 ghost use Rattle.lq_request.specs.Stats.{IsStat};
 
 use crate::entry::{Entries, StatEntry};
 use crate::fault::Fault;
+use crate::filters::Filters;
 use crate::header::{Draft, header_lines};
 use crate::reason::Reason;
 use crate::style::{Style, reply_style};
+use crate::time::Interval;
 use crate::words::{as_text, is_text, words_of};
-use lq_filter::{Filter, Stack};
+use lq_filter::Filter;
 use lq_records::{Base, Format, Items, Memory, Refusal, Separators, Text};
-use lq_schema::{Col, Table, column_at, column_count, table};
+use lq_schema::{Col, Names, Table, column_at, column_count, table};
 use lq_text::next_line;
 use std::alloc::{AllocError, Global};
 
@@ -33,7 +36,8 @@ pub struct Request {
     /// Whether a line of the columns' names comes first: what the last `ColumnHeaders` line says;
     /// without one, true exactly where no line names columns or statistics.
     pub head: bool,
-    /// Which rows are shown.
+    /// Which rows are shown. `Filter` lines on `time` of `statehist` aren't among its tests: the
+    /// window stands for them.
     pub filter: Filter,
     /// The statistics of the rows, in the order of their lines; none where rows are shown.
     pub stats: Items<StatEntry>,
@@ -50,6 +54,17 @@ pub struct Request {
     /// The name of the contact who sees the reply: what the last `AuthUser` line says, without the
     /// blanks around it. It may be one that no contact has. None where no line says it.
     pub user: Option<Text>,
+    /// The first second of the window of time, in seconds since 1970, at most 1,000,000,000,000. In
+    /// `statehist` and `log` it is the latest that a `Filter` line on `time` says which no `And`,
+    /// `Or` or `Negate` takes; 0 where none says it, and in other tables.
+    pub from: u64,
+    /// The first second behind the window of time, in seconds since 1970, at most
+    /// 1,000,000,000,000. In `statehist` and `log` it is the earliest that such a line says. Where
+    /// none says it, in `statehist` it is None, which stands for the present second, and else
+    /// 1,000,000,000,000, as in other tables.
+    pub until: Option<u64>,
+    /// The names that rows have to have. For now there are none.
+    pub names: Names,
 }
 
 /// Why a message gives no request.
@@ -75,18 +90,26 @@ pub enum ReadErr {
 /// value for <header>`; `aggregate not supported: <word>`; 450 `unknown column: <word>`; `unknown
 /// operator: <word>`; `operator not allowed for <column>`, also for an aggregate of a column that
 /// has no numbers; `not a number: <value>`; `bad pattern`; `too many patterns` at the 17th of all
-/// lines `Filter` and `Stats`; `stack too short for <header>`; `aggregate in <header>`.
+/// lines `Filter` and `Stats`; `stack too short for <header>`; `aggregate in <header>`; `time
+/// filter inside a group` where `And`, `Or` or `Negate` takes a `Filter` line on the column `time`
+/// of `statehist`. Last, after all lines, comes 400 `time filter missing` where no `Filter` line on
+/// that column says when the history begins.
 ///
 /// A value is bad where `Columns` has no word, a switch isn't `on` or `off`, `ResponseHeader` isn't
 /// `fixed16` or `off`, `OutputFormat` isn't `csv`, `CSV` or `json`, `Separators` isn't four numbers
 /// of 0 to 255, any other number hasn't 64 bits without a sign, `Filter` or `Stats` has no
-/// operator, or `Stats` has not exactly one word after that of an aggregate. All refusals have the
-/// style that `reply_style` gives.
+/// operator, or `Stats` has not exactly one word after that of an aggregate. A `Filter` line can't
+/// have `!=` on `time` of `statehist`. All refusals have the style that `reply_style` gives.
 #[tactic(auto, unfolding(crate::specs::Request::asked))]
 pub fn read_request(alloc: Global, b: &[u8], _base: &Base) -> Result<Request, ReadErr>
     ensures asked { Reads result (asked b.now) }
     ensures stats { IfOk result (λ request. All IsStat request.stats) }
     ensures cells { IfOk result ShowsCells }
+    ensures times { IfOk result HasTimes }
+    ensures end { IfOk result HasEnd }
+    // No row that the filter chooses is outside the window.
+    ensures lines { IfOk result HasChosenLines }
+    ensures names { IfOk result FixesNoName }
     ensures code { IfErr result HasCode }
 {
     let style = reply_style(b);
@@ -110,6 +133,10 @@ fn asked_in(alloc: Global, style: Style, message: &[u8]) -> Result<Request, Faul
     ensures asked { Finds result (asked_in style message.now) }
     ensures stats { IfOk result (λ request. All IsStat request.stats) }
     ensures cells { IfOk result ShowsCells }
+    ensures times { IfOk result HasTimes }
+    ensures end { IfOk result HasEnd }
+    ensures lines { IfOk result HasChosenLines }
+    ensures names { IfOk result FixesNoName }
 {
     let Some((end, next)) = next_line(message, 0) else {
         return Err(Fault::Refused(Reason::InvalidRequest));
@@ -123,15 +150,20 @@ fn asked_headers(alloc: Global, draft: Draft, bytes: &[u8]) -> Result<Request, F
     ensures asked { Finds result (asked_headers (header_lines 1 (lines_of bytes.now) draft)) }
     ensures stats { IfOk result (λ request. All IsStat request.stats) }
     ensures cells { IfOk result ShowsCells }
+    ensures times { IfOk result HasTimes }
+    ensures end { IfOk result HasEnd }
+    ensures lines { IfOk result HasChosenLines }
+    ensures names { IfOk result FixesNoName }
 {
     let draft = header_lines(alloc, draft, bytes)?;
-    Ok(finished(alloc, draft)?)
+    finished(alloc, draft)
 }
 
 /// A query of a table without header lines.
 fn plain(alloc: Global, style: Style, table: Table) -> Draft
     ensures { result ≡ plain style table }
 {
+    let interval = Interval::whole();
     Draft {
         request: Request {
             table,
@@ -145,9 +177,12 @@ fn plain(alloc: Global, style: Style, table: Table) -> Draft
             fixed16: style.fixed16,
             keep: style.keep,
             user: None,
+            from: interval.from,
+            until: interval.until,
+            names: Names::none(alloc),
         },
         names: None,
-        filter: Stack::new(alloc),
+        filters: Filters::new(alloc),
         stats: Entries::new(alloc),
         patterns: 0,
     }
@@ -188,15 +223,23 @@ fn table_of_words(alloc: Global, words: &[&[u8]]) -> Result<Table, Fault>
     }
 }
 
-/// The request of a query that is read whole.
-fn finished(alloc: Global, draft: Draft) -> Result<Request, Memory>
-    ensures same { IfOk result (λ request. request ≡ finished draft) }
+/// The request of a query that is read whole, or why it is refused after all.
+fn finished(alloc: Global, draft: Draft) -> Result<Request, Fault>
+    ensures same { Finds result (finished draft) }
     ensures stats { IfOk result (λ request. All IsStat request.stats) }
     ensures cells { IfOk result ShowsCells }
+    ensures times { IfOk result HasTimes }
+    ensures end { IfOk result HasEnd }
+    ensures lines { IfOk result HasChosenLines }
+    ensures names { IfOk result FixesNoName }
 {
     let mut request = draft.request;
     let shows_all = request.columns.is_empty() && draft.stats.is_empty();
-    request.filter = draft.filter.finish()?;
+    let interval = Interval::of(request.table, draft.filters.bounds(request.table))?;
+    request.from = interval.from;
+    request.until = interval.until;
+    request.names = Names::none(alloc);
+    request.filter = draft.filters.finish(alloc)?;
     request.stats = draft.stats.finish(alloc)?;
     request.head = draft.names.unwrap_or(shows_all);
     if shows_all {

@@ -12,6 +12,7 @@ use Rattle.lq_schema.specs.Period.{period_heading}
 use Rattle.lq_schema.specs.Downtime.{downtime_heading}
 use Rattle.lq_schema.specs.Comment.{comment_heading}
 use Rattle.lq_schema.specs.Line.{line_heading}
+use Rattle.lq_schema.specs.Slice.{slice_heading}
 use Rattle.lq_schema.specs.Program.{program_heading}
 use Rattle.lq_schema.specs.SchemaColumn.{schema_heading}
 use Rattle.lq_schema.specs.Order.{own_heading}
@@ -28,6 +29,7 @@ use Rattle.lq_schema.specs.declared.period.PeriodColumn.{PeriodColumn}
 use Rattle.lq_schema.specs.declared.downtime.DowntimeColumn.{DowntimeColumn}
 use Rattle.lq_schema.specs.declared.comment.CommentColumn.{CommentColumn}
 use Rattle.lq_schema.specs.declared.line.LineColumn.{LineColumn}
+use Rattle.lq_schema.specs.declared.slice.SliceColumn.{SliceColumn}
 use Rattle.lq_schema.specs.declared.program.ProgramColumn.{ProgramColumn}
 use Rattle.lq_schema.specs.declared.schema_column.SchemaColumn.{SchemaColumn}
 use Rattle.lq_schema.specs.declared.columns.OwnColumn.{OwnColumn}
@@ -71,6 +73,9 @@ comment_kind column = (comment_heading column).kind
 
 abbrev pub line_kind : LineColumn → ColKind
 line_kind column = (line_heading column).kind
+
+abbrev pub slice_kind : SliceColumn → ColKind
+slice_kind column = (slice_heading column).kind
 
 abbrev pub program_kind : ProgramColumn → ColKind
 program_kind column = (program_heading column).kind

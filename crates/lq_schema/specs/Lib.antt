@@ -19,5 +19,6 @@ pub mod SchemaColumn
 pub mod Service
 pub mod ServiceCounter
 pub mod ServiceGroup
+pub mod Slice
 pub mod Status
 pub mod Value

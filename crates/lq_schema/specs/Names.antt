@@ -27,6 +27,7 @@ table_name table.Columns = codes "columns"
 table_name table.HostsByGroup = codes "hostsbygroup"
 table_name table.ServicesByGroup = codes "servicesbygroup"
 table_name table.ServicesByHostGroup = codes "servicesbyhostgroup"
+table_name table.StateHist = codes "statehist"
 
 -- what stands before the names of joined columns
 abbrev pub prefix_text : Prefix → List ℕ
@@ -51,6 +52,7 @@ own_prefix subject.Period = codes "timeperiod_"
 own_prefix subject.Downtime = codes "downtime_"
 own_prefix subject.Comment = codes "comment_"
 own_prefix subject.Line = codes "log_"
+own_prefix subject.Slice = codes "statehist_"
 own_prefix subject.Program = codes "status_"
 own_prefix subject.Schema = codes "column_"
 

@@ -12,6 +12,7 @@ use Rattle.lq_schema.specs.Period.{period_heading, period_columns}
 use Rattle.lq_schema.specs.Downtime.{downtime_heading, downtime_columns}
 use Rattle.lq_schema.specs.Comment.{comment_heading, comment_columns}
 use Rattle.lq_schema.specs.Line.{line_heading, line_columns}
+use Rattle.lq_schema.specs.Slice.{slice_heading, slice_columns}
 use Rattle.lq_schema.specs.Program.{program_heading, program_columns}
 use Rattle.lq_schema.specs.SchemaColumn.{schema_heading, schema_columns}
 use Rattle.lq_schema.specs.declared.columns.Subject.{Subject}
@@ -31,6 +32,7 @@ own_heading (own.Period column) = period_heading column
 own_heading (own.Downtime column) = downtime_heading column
 own_heading (own.Comment column) = comment_heading column
 own_heading (own.Line column) = line_heading column
+own_heading (own.Slice column) = slice_heading column
 own_heading (own.Program column) = program_heading column
 own_heading (own.Schema column) = schema_heading column
 
@@ -47,5 +49,6 @@ own_columns subject.Period = map own.Period period_columns
 own_columns subject.Downtime = map own.Downtime downtime_columns
 own_columns subject.Comment = map own.Comment comment_columns
 own_columns subject.Line = map own.Line line_columns
+own_columns subject.Slice = map own.Slice slice_columns
 own_columns subject.Program = map own.Program program_columns
 own_columns subject.Schema = map own.Schema schema_columns

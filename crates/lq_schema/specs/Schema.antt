@@ -20,7 +20,7 @@ tables =
     table.Hosts ∷ table.Services ∷ table.HostGroups ∷ table.ServiceGroups ∷ table.Contacts
     ∷ table.ContactGroups ∷ table.Commands ∷ table.TimePeriods ∷ table.Downtimes ∷ table.Comments
     ∷ table.Log ∷ table.Status ∷ table.Columns ∷ table.HostsByGroup ∷ table.ServicesByGroup
-    ∷ table.ServicesByHostGroup ∷ []
+    ∷ table.ServicesByHostGroup ∷ table.StateHist ∷ []
 
 -- the table that has a name
 abbrev pub table_of : List ℕ → Option Table
@@ -44,6 +44,7 @@ subject_of table.Columns = subject.Schema
 subject_of table.HostsByGroup = subject.Host
 subject_of table.ServicesByGroup = subject.Service
 subject_of table.ServicesByHostGroup = subject.Service
+subject_of table.StateHist = subject.Slice
 
 abbrev pub part : Prefix → Subject → Part
 part prefix subject = record { prefix = prefix; subject = subject }
@@ -71,6 +72,8 @@ joined_of table.ServicesByGroup =
     part prefix.Host subject.Host ∷ part prefix.ServiceGroup subject.ServiceGroup ∷ []
 joined_of table.ServicesByHostGroup =
     part prefix.Host subject.Host ∷ part prefix.HostGroup subject.HostGroup ∷ []
+joined_of table.StateHist =
+    part prefix.CurrentHost subject.Host ∷ part prefix.CurrentService subject.Service ∷ []
 
 -- ---- columns
 

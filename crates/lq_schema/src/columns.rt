@@ -19,6 +19,7 @@ use crate::program::ProgramColumn;
 use crate::schema_column::SchemaColumn;
 use crate::service::ServiceColumn;
 use crate::service_group::ServiceGroupColumn;
+use crate::slice::SliceColumn;
 
 /// A table that a query may ask for.
 #[derive(Clone, Copy, PartialEq, Eq)]
@@ -55,6 +56,8 @@ pub enum Table {
     ServicesByGroup,
     /// `servicesbyhostgroup`, with a row for each service of each member of each group of hosts.
     ServicesByHostGroup,
+    /// `statehist`, with a row for each time in which nothing of a host or a service changed.
+    StateHist,
 }
 
 /// What a row, or a part of it, is about.
@@ -71,6 +74,7 @@ pub enum Subject {
     Downtime,
     Comment,
     Line,
+    Slice,
     Program,
     Schema,
 }
@@ -89,6 +93,7 @@ pub enum OwnColumn {
     Downtime(DowntimeColumn),
     Comment(CommentColumn),
     Line(LineColumn),
+    Slice(SliceColumn),
     Program(ProgramColumn),
     Schema(SchemaColumn),
 }
@@ -106,11 +111,11 @@ pub enum Prefix {
     HostGroup,
     /// `servicegroup_`, the columns of the group of services that a row is about.
     ServiceGroup,
-    /// `current_host_`, the columns of the host that a line of the log is about, or whose service
-    /// it is about, as they are now.
+    /// `current_host_`, the columns of the host that a line of the log or a slice of a history is
+    /// about, or whose service it is about, as they are now.
     CurrentHost,
-    /// `current_service_`, the columns of the service that a line of the log is about, as they are
-    /// now.
+    /// `current_service_`, the columns of the service that a line of the log or a slice of a
+    /// history is about, as they are now.
     CurrentService,
 }
 
@@ -170,6 +175,7 @@ impl OwnColumn {
             OwnColumn::Downtime(column) => column.heading(),
             OwnColumn::Comment(column) => column.heading(),
             OwnColumn::Line(column) => column.heading(),
+            OwnColumn::Slice(column) => column.heading(),
             OwnColumn::Program(column) => column.heading(),
             OwnColumn::Schema(column) => column.heading(),
         }
@@ -227,6 +233,7 @@ impl Subject {
             Subject::Downtime => "downtime_",
             Subject::Comment => "comment_",
             Subject::Line => "log_",
+            Subject::Slice => "statehist_",
             Subject::Program => "status_",
             Subject::Schema => "column_",
         }
@@ -249,6 +256,7 @@ impl Subject {
             Subject::Downtime => DowntimeColumn::ORDER.len(),
             Subject::Comment => CommentColumn::ORDER.len(),
             Subject::Line => LineColumn::ORDER.len(),
+            Subject::Slice => SliceColumn::ORDER.len(),
             Subject::Program => ProgramColumn::ORDER.len(),
             Subject::Schema => SchemaColumn::ORDER.len(),
         }
@@ -271,6 +279,7 @@ impl Subject {
             Subject::Downtime => OwnColumn::Downtime(DowntimeColumn::ORDER[i]),
             Subject::Comment => OwnColumn::Comment(CommentColumn::ORDER[i]),
             Subject::Line => OwnColumn::Line(LineColumn::ORDER[i]),
+            Subject::Slice => OwnColumn::Slice(SliceColumn::ORDER[i]),
             Subject::Program => OwnColumn::Program(ProgramColumn::ORDER[i]),
             Subject::Schema => OwnColumn::Schema(SchemaColumn::ORDER[i]),
         }

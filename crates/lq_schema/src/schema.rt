@@ -129,7 +129,7 @@ fn without_prefix<'a>(name: &'a str, front: &str) -> Option<&'a str>
     name.strip_prefix(front)
 }
 
-const TABLES: [Table; 16] = [
+const TABLES: [Table; 17] = [
     Table::Hosts,
     Table::Services,
     Table::HostGroups,
@@ -146,6 +146,7 @@ const TABLES: [Table; 16] = [
     Table::HostsByGroup,
     Table::ServicesByGroup,
     Table::ServicesByHostGroup,
+    Table::StateHist,
 ];
 
 const HOST: Part = Part {
@@ -200,6 +201,7 @@ impl Table {
             Table::HostsByGroup => "hostsbygroup",
             Table::ServicesByGroup => "servicesbygroup",
             Table::ServicesByHostGroup => "servicesbyhostgroup",
+            Table::StateHist => "statehist",
         }
     }
 
@@ -220,6 +222,7 @@ impl Table {
             Table::Downtimes => Subject::Downtime,
             Table::Comments => Subject::Comment,
             Table::Log => Subject::Line,
+            Table::StateHist => Subject::Slice,
             Table::Status => Subject::Program,
             Table::Columns => Subject::Schema,
         }
@@ -233,7 +236,7 @@ impl Table {
         match self {
             Table::Services => &[HOST],
             Table::Downtimes | Table::Comments => &[HOST, SERVICE],
-            Table::Log => &[CURRENT_HOST, CURRENT_SERVICE],
+            Table::Log | Table::StateHist => &[CURRENT_HOST, CURRENT_SERVICE],
             Table::HostsByGroup => &[HOST_GROUP],
             Table::ServicesByGroup => &[HOST, SERVICE_GROUP],
             Table::ServicesByHostGroup => &[HOST, HOST_GROUP],

@@ -30,6 +30,7 @@ few table.Columns = lit≤ tt
 few table.HostsByGroup = lit≤ tt
 few table.ServicesByGroup = lit≤ tt
 few table.ServicesByHostGroup = lit≤ tt
+few table.StateHist = lit≤ tt
 
 -- the tables from a place on are the one there and those after it
 pub from_place : {A : Type 0} (xs : List A) (i : ℕ) (x : A) → slice_get xs i ≡ Some x → drop i xs ≡ x ∷ drop (i + 1) xs

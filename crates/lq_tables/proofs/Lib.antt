@@ -1,3 +1,4 @@
 pub mod Entries
 pub mod Numbered
 pub mod OwnLemmas
+pub mod HistoryLemmas

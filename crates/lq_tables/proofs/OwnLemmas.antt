@@ -1,5 +1,5 @@
 -- The only one with an id, in a list whose ids rise, and the one at a place.
-use Rattle.std.proofs.Common.{◌≡◌, ◌≢◌, ℕ, zero, suc, ◌+◌, ◌<◌, ◌≤◌, ◌==◌, Bool, true, false, Option, Some, None, Result, Ok, Err, MatchResult, Equal, List, [], ◌∷◌, length, map, filter, get_or, slice_get, refl, sym, ap, subst, arith, ◌∙◌, if◌then◌else◌}
+use Rattle.std.proofs.Common.{◌≡◌, ◌≢◌, ℕ, zero, suc, ◌+◌, ◌<◌, ◌≤◌, ◌==◌, ◌&&◌, Bool, true, false, Option, Some, None, Result, Ok, Err, MatchResult, Equal, List, [], ◌∷◌, length, map, filter, get_or, slice_get, refl, sym, ap, subst, arith, ◌∙◌, if◌then◌else◌}
 use Rattle.std.specs.List.{find, range_with_len}
 use Rattle.std.specs.List.Sorted.{IsBinarySearchResult, IsNonDecreasingBy, IsSearchInRange}
 use Rattle.std.specs.Option.{option_map, option_map_or}
@@ -23,9 +23,10 @@ use Rattle.lq_auth.specs.declared.view.View.TheVariants as view
 use Rattle.lq_tables.specs.About.{row_comment, row_downtime, row_line, row_object}
 use Rattle.lq_tables.specs.Own.{HasIdsRising, IsOwn, row_id}
 use Rattle.lq_auth.specs.Rights.{sees_object}
-use Rattle.lq_tables.specs.Rows.{rows_of, sees_entry, sees_row}
+use Rattle.lq_tables.specs.Rows.{has_line_within, is_within, rows_of, sees_entry, sees_row}
 use Rattle.lq_tables.specs.declared.row.Row.{Row}
 use Rattle.lq_tables.specs.declared.row.Row.TheVariants as row
+use Rattle.lq_tables.specs.declared.window.Window.{Window}
 
 -- the first with an id, after an item
 found_first : {A : Type 0} (id : A → ℕ) (sought : ℕ) (item : A) (items : List A) (is : Bool) → (id item == sought) ≡ is
@@ -55,36 +56,50 @@ kept_from id about row seen is_seen least next whole (item ∷ items) rise finds
     (λ sought more. same sought (omega (arith, more, rise.0))
     ∙ found_first id sought item items false (ne_eqb (id item) sought (λ equal. omega (arith, more, equal)))) agree)
 
--- rows by place, from a place on
-placed_from : {A B : Type 0} (about : B → Option A) (row : ℕ → B) (seen : B → Bool) (is_seen : A → Bool) (whole items : List A) (n : ℕ)
+-- a place before others, of which some are taken
+taken_first : {A B : Type 0} (about : B → Option A) (row : ℕ → B) (seen : B → Bool) (is_seen : A → Bool) (taken : ℕ → Bool) (is_taken : A → Bool)
+    (n : ℕ) (places : List ℕ) (item : A) (items : List A) (is : Bool)
+    → taken n ≡ is → is_taken item ≡ is → about (row n) ≡ Some item → seen (row n) ≡ is_seen item
+    → map about (filter seen (map row (filter taken places))) ≡ map Some (filter (λ other. is_taken other && is_seen other) items)
+    → map about (filter seen (map row (filter taken (n ∷ places)))) ≡ map Some (filter (λ other. is_taken other && is_seen other) (item ∷ items))
+taken_first about row seen is_seen taken is_taken n places item items true place_is item_is here seen_is rest =
+    let both : (is_taken item && is_seen item) ≡ is_seen item = ap (λ holds. holds && is_seen item) item_is in
+    rw place_is (kept_first about seen (λ other. is_taken other && is_seen other) (row n) item (map row (filter taken places)) items (is_seen item) seen_is both here rest)
+taken_first about row seen is_seen taken is_taken n places item items false place_is item_is here seen_is rest = rw (place_is, item_is) rest
+
+-- rows of the places that are taken, from a place on
+placed_from : {A B : Type 0} (about : B → Option A) (row : ℕ → B) (seen : B → Bool) (is_seen : A → Bool) (taken : ℕ → Bool) (is_taken : A → Bool) (whole items : List A) (n : ℕ)
     → ((k : ℕ) → slice_get whole (n + k) ≡ slice_get items k) → ((place : ℕ) → about (row place) ≡ slice_get whole place)
     → ((place : ℕ) (item : A) → about (row place) ≡ Some item → seen (row place) ≡ is_seen item)
-    → map about (filter seen (map row (range_with_len n (length items)))) ≡ map Some (filter is_seen items)
-placed_from about row seen is_seen whole [] n same finds agree = refl
-placed_from about row seen is_seen whole (item ∷ items) n same finds agree =
+    → ((place : ℕ) (item : A) → slice_get whole place ≡ Some item → taken place ≡ is_taken item)
+    → map about (filter seen (map row (filter taken (range_with_len n (length items))))) ≡ map Some (filter (λ item. is_taken item && is_seen item) items)
+placed_from about row seen is_seen taken is_taken whole [] n same finds agree takes = refl
+placed_from about row seen is_seen taken is_taken whole (item ∷ items) n same finds agree takes =
     let at_n : n ≡ n + 0 = omega arith in
-    let here : about (row n) ≡ Some item = finds n ∙ ap (slice_get whole) at_n ∙ same 0 in
-    kept_first about seen is_seen (row n) item (map row (range_with_len (n + 1) (length items))) items (is_seen item) (agree n item here) refl here
-    (placed_from about row seen is_seen whole items (n + 1)
-    (λ k. let later : n + 1 + k ≡ n + suc k = omega arith in ap (slice_get whole) later ∙ same (suc k)) finds agree)
+    let there : slice_get whole n ≡ Some item = ap (slice_get whole) at_n ∙ same 0 in
+    let here : about (row n) ≡ Some item = finds n ∙ there in
+    taken_first about row seen is_seen taken is_taken n (range_with_len (n + 1) (length items)) item items (is_taken item) (takes n item there) refl here (agree n item here)
+    (placed_from about row seen is_seen taken is_taken whole items (n + 1)
+    (λ k. let later : n + 1 + k ≡ n + suc k = omega arith in ap (slice_get whole) later ∙ same (suc k)) finds agree takes)
 
-pub own_of : (s : State) (view : View) (t : Table) (rows : List Row) → HasRisingIds s → rows ≡ rows_of s view t → IsOwn s view t rows
-own_of s view table.Downtimes rows has made =
+pub own_of : (s : State) (view : View) (window : Window) (t : Table) (rows : List Row) → HasRisingIds s → rows ≡ rows_of s view window t → IsOwn s view window t rows
+own_of s view window table.Downtimes rows has made =
     ap (map (row_downtime s)) made
     ∙ kept_from downtime_id (row_downtime s) (λ downtime. row.Downtime downtime.id) (sees_row s view) (λ downtime. sees_object view downtime.object)
     0 s.next_downtime s.downtimes s.downtimes has.downtimes (λ item. refl) (λ sought more. refl)
     (λ item here. ap (λ (found : Option Downtime). option_map_or (sees_object view) (option_map (λ downtime. downtime.object) found) true) here)
-own_of s view table.Comments rows has made =
+own_of s view window table.Comments rows has made =
     ap (map (row_comment s)) made
     ∙ kept_from comment_id (row_comment s) (λ comment. row.Comment comment.id) (sees_row s view) (λ comment. sees_object view comment.object)
     0 s.next_comment s.comments s.comments has.comments (λ item. refl) (λ sought more. refl)
     (λ item here. ap (λ (found : Option Comment). option_map_or (sees_object view) (option_map (λ comment. comment.object) found) true) here)
-own_of s view table.Log rows has made =
+own_of s view window table.Log rows has made =
     ap (map (row_line s)) made
-    ∙ placed_from (row_line s) row.Line (sees_row s view) (sees_entry s.base view) s.log s.log 0
+    ∙ placed_from (row_line s) row.Line (sees_row s view) (sees_entry s.base view) (has_line_within window s.log) (is_within window) s.log s.log 0
     (λ k. let from_start : 0 + k ≡ k = omega arith in ap (slice_get s.log) from_start) (λ place. refl)
     (λ place entry here. ap (λ (found : Option LogEntry). option_map_or (sees_entry s.base view) found true) here)
-own_of s view _ rows has made = tt
+    (λ place entry there. ap (λ (found : Option LogEntry). option_map_or (is_within window) found false) there)
+own_of s view window _ rows has made = tt
 
 -- what a state says of its lists is so of lists that are the same
 pub has_rising : (s : State) (downtimes : List Downtime) (comments : List Comment) → downtimes ≡ s.downtimes → comments ≡ s.comments
@@ -115,16 +130,16 @@ kept_rise id keeps least next [] rise = tt
 kept_rise id keeps least next (item ∷ items) rise =
     kept_rise_first id keeps least next item items (keeps item) refl rise.0 rise.1 (kept_rise id keeps (id item + 1) next items rise.2)
 
-pub rising_of : (s : State) (view : View) (t : Table) (rows : List Row) → HasRisingIds s → rows ≡ rows_of s view t → HasIdsRising s t rows
-rising_of s view table.Downtimes rows has made =
+pub rising_of : (s : State) (view : View) (window : Window) (t : Table) (rows : List Row) → HasRisingIds s → rows ≡ rows_of s view window t → HasIdsRising s t rows
+rising_of s view window table.Downtimes rows has made =
     subst (IdsRise row_id 0 s.next_downtime) (sym made)
     (kept_rise row_id (sees_row s view) 0 s.next_downtime (map (λ downtime. row.Downtime downtime.id) s.downtimes)
     (rows_rise (λ downtime. row.Downtime downtime.id) 0 s.next_downtime s.downtimes has.downtimes))
-rising_of s view table.Comments rows has made =
+rising_of s view window table.Comments rows has made =
     subst (IdsRise row_id 0 s.next_comment) (sym made)
     (kept_rise row_id (sees_row s view) 0 s.next_comment (map (λ comment. row.Comment comment.id) s.comments)
     (rows_rise (λ comment. row.Comment comment.id) 0 s.next_comment s.comments has.comments))
-rising_of s view _ rows has made = tt
+rising_of s view window _ rows has made = tt
 
 -- ---- all rows are seen without a user
 
@@ -148,6 +163,7 @@ seen_by_all s (row.GroupService group id) = refl
 seen_by_all s (row.Downtime id) = object_seen_by_all (row_object s (row.Downtime id))
 seen_by_all s (row.Comment id) = object_seen_by_all (row_object s (row.Comment id))
 seen_by_all s (row.Line place) = entry_seen_by_all s.base (row_line s (row.Line place))
+seen_by_all s (row.Slice history) = object_seen_by_all (Some history.slice.object)
 seen_by_all s _ = refl
 
 kept_all_first : {A : Type 0} (keeps : A → Bool) (item : A) (items : List A) → keeps item ≡ true → filter keeps items ≡ items → filter keeps (item ∷ items) ≡ item ∷ items

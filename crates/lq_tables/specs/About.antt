@@ -18,6 +18,7 @@ use Rattle.lq_log.specs.Told.{object_of}
 use Rattle.lq_live.specs.State.{State}
 use Rattle.lq_columns.specs.Cells.{HostRecord, ServiceRecord, host_at, service_at}
 use Rattle.lq_tables.specs.Schema.{schema}
+use Rattle.lq_tables.specs.declared.history_row.HistoryRow.{HistoryRow}
 use Rattle.lq_tables.specs.declared.row.Row.{Row}
 use Rattle.lq_tables.specs.declared.row.Row.TheVariants as row
 use Rattle.lq_tables.specs.declared.schema.Entry.{Entry}
@@ -47,10 +48,17 @@ abbrev pub row_line : State → Row → Option LogEntry
 row_line s (row.Line place) = slice_get s.log place
 row_line s row = None
 
+-- ---- slices of histories
+
+abbrev pub row_slice : Row → Option HistoryRow
+row_slice (row.Slice history) = Some history
+row_slice row = None
+
 -- ---- hosts and services
 
 -- the host or service that a row is about; a downtime and a comment are about that of their own, a
--- line of the log about the one that it names, where the base has it
+-- line of the log about the one that it names, where the base has it; a slice about that whose
+-- history it is of
 abbrev pub row_object : State → Row → Option Object
 row_object s (row.Host id) = Some (object.Host id)
 row_object s (row.HostOf group id) = Some (object.Host id)
@@ -61,6 +69,7 @@ row_object s (row.Downtime id) =
     option_map (λ downtime. downtime.object) (downtime_with id s.downtimes)
 row_object s (row.Comment id) = option_map (λ comment. comment.object) (comment_with id s.comments)
 row_object s (row.Line place) = option_and_then (object_of s.base) (slice_get s.log place)
+row_object s (row.Slice history) = Some history.slice.object
 row_object s row = None
 
 -- the service itself

@@ -26,9 +26,10 @@ use Rattle.lq_auth.specs.declared.view.View.{View}
 use Rattle.lq_columns.specs.Names.{contact_names_of, host_names_of}
 use Rattle.lq_columns.specs.Cells.{HostRecord, ServiceRecord, host_cell, hosts_cell, service_cell, services_cell}
 use Rattle.lq_columns.specs.declared.scope.Scope.TheVariants as scope
-use Rattle.lq_tables.specs.About.{row_command, row_comment, row_contact, row_contact_group, row_downtime, row_entry, row_host, row_host_group, row_line, row_period, row_service, row_service_group}
+use Rattle.lq_tables.specs.About.{row_command, row_comment, row_contact, row_contact_group, row_downtime, row_entry, row_host, row_host_group, row_line, row_period, row_service, row_service_group, row_slice}
 use Rattle.lq_tables.specs.declared.row.Row.{Row}
 use Rattle.lq_tables.specs.Parts.{command_cell, comment_cell, contact_cell, downtime_cell, line_cell, pair_at, period_cell, program_part, schema_cell}
+use Rattle.lq_tables.specs.Slices.{slice_cell}
 
 -- ---- groups
 
@@ -105,6 +106,7 @@ own_cell s view row (own.Period column) = period_cell s (row_period s.base row) 
 own_cell s view row (own.Downtime column) = downtime_cell (row_downtime s row) column
 own_cell s view row (own.Comment column) = comment_cell (row_comment s row) column
 own_cell s view row (own.Line column) = line_cell (row_line s row) column
+own_cell s view row (own.Slice column) = slice_cell s (row_slice row) column
 own_cell s view row (own.Program column) = program_part s row column
 own_cell s view row (own.Schema column) = schema_cell (row_entry row) column
 

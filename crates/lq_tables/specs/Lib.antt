@@ -7,3 +7,4 @@ pub mod Own
 pub mod Parts
 pub mod Light
 pub mod Cells
+pub mod Slices

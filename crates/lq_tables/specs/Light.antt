@@ -21,6 +21,7 @@ IsHeld (own.Period column) = Unit {0}
 IsHeld (own.Downtime column) = Unit {0}
 IsHeld (own.Comment column) = Unit {0}
 IsHeld (own.Line column) = Unit {0}
+IsHeld (own.Slice column) = Unit {0}
 IsHeld (own.Program column) = Unit {0}
 IsHeld column = ⊥
 

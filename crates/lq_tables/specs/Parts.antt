@@ -1,6 +1,6 @@
 -- The values of the columns on contacts, commands, time periods, downtimes, comments, lines of the
 -- log, the program and the schema.
-use Rattle.std.specs.Prelude.{ℕ, pos, Bool, Option, Some, None, List, length, codes, if◌then◌else◌}
+use Rattle.std.specs.Prelude.{ℕ, Option, Some, None, List, length, codes}
 use Rattle.std.specs.List.{slice_get}
 use Rattle.std.specs.Option.{option_map, option_and_then}
 use Rattle.lq_records.specs.declared.base.Base.{Base}

@@ -4,8 +4,9 @@ ghost use Rattle.std.specs.Prelude.{◌≡◌};
 ghost use Rattle.std.specs.List.{slice_get};
 ghost use Rattle.std.specs.Option.{option_and_then, option_copied, option_map};
 ghost use Rattle.lq_columns.specs.Cells.{host_record, service_record};
-ghost use Rattle.lq_tables.specs.About.{comment_with, downtime_with, host_of_object, row_command, row_comment, row_contact, row_contact_group, row_downtime, row_entry, row_host_group, row_line, row_object, row_period, row_service_group, service_of_object};
+ghost use Rattle.lq_tables.specs.About.{comment_with, downtime_with, host_of_object, row_command, row_comment, row_contact, row_contact_group, row_downtime, row_entry, row_host_group, row_line, row_object, row_period, row_service_group, row_slice, service_of_object};
 
+use crate::history_row::HistoryRow;
 use crate::row::Row;
 use crate::schema::{Entry, entry_at};
 use lq_columns::{HostRow, ServiceRow};
@@ -18,20 +19,20 @@ use lq_records::{
 
 // ---- downtimes and comments
 
-pub(crate) fn row_downtime(live: &Live, row: Row) -> Option<&Downtime>
-    ensures { option_copied result ≡ row_downtime live.now.state row }
+pub(crate) fn row_downtime<'a>(live: &'a Live, row: &Row) -> Option<&'a Downtime>
+    ensures { option_copied result ≡ row_downtime live.now.state row.now }
 {
     match row {
-        Row::Downtime(id) => downtime_with(live, id),
+        Row::Downtime(id) => downtime_with(live, *id),
         _ => None,
     }
 }
 
-pub(crate) fn row_comment(live: &Live, row: Row) -> Option<&Comment>
-    ensures { option_copied result ≡ row_comment live.now.state row }
+pub(crate) fn row_comment<'a>(live: &'a Live, row: &Row) -> Option<&'a Comment>
+    ensures { option_copied result ≡ row_comment live.now.state row.now }
 {
     match row {
-        Row::Comment(id) => comment_with(live, id),
+        Row::Comment(id) => comment_with(live, *id),
         _ => None,
     }
 }
@@ -60,32 +61,44 @@ fn comment_with(live: &Live, id: u64) -> Option<&Comment>
 
 // ---- lines of the log
 
-pub(crate) fn row_line(live: &Live, row: Row) -> Option<&LogEntry>
-    ensures { option_copied result ≡ row_line live.now.state row }
+pub(crate) fn row_line<'a>(live: &'a Live, row: &Row) -> Option<&'a LogEntry>
+    ensures { option_copied result ≡ row_line live.now.state row.now }
 {
     match row {
-        Row::Line(place) => live.log().entries().get(place as usize),
+        Row::Line(place) => live.log().entries().get(*place as usize),
+        _ => None,
+    }
+}
+
+// ---- slices of histories
+
+pub(crate) fn row_slice(row: &Row) -> Option<&HistoryRow>
+    ensures { option_copied result ≡ row_slice row.now }
+{
+    match row {
+        Row::Slice(history) => Some(history.row()),
         _ => None,
     }
 }
 
 // ---- hosts and services
 
-/// The host or service that a row is about, or its downtime, its comment or its line of the log.
+/// The host or service that a row is about, or its downtime, its comment, its line of the log or
+/// its slice of a history.
 #[inline]
-pub(crate) fn row_object(live: &Live, row: Row) -> Option<Object>
-    ensures { result ≡ row_object live.now.state row }
+pub(crate) fn row_object(live: &Live, row: &Row) -> Option<Object>
+    ensures { result ≡ row_object live.now.state row.now }
 {
     match row {
-        Row::Host(id) | Row::HostOf(_, id) => Some(Object::Host(id)),
+        Row::Host(id) | Row::HostOf(_, id) => Some(Object::Host(*id)),
         Row::Service(id) | Row::ServiceOf(_, id) | Row::GroupService(_, id) => {
-            Some(Object::Service(id))
+            Some(Object::Service(*id))
         }
-        Row::Downtime(id) => match downtime_with(live, id) {
+        Row::Downtime(id) => match downtime_with(live, *id) {
             Some(downtime) => Some(downtime.object),
             None => None,
         },
-        Row::Comment(id) => match comment_with(live, id) {
+        Row::Comment(id) => match comment_with(live, *id) {
             Some(comment) => Some(comment.object),
             None => None,
         },
@@ -93,6 +106,7 @@ pub(crate) fn row_object(live: &Live, row: Row) -> Option<Object>
             Some(entry) => object_of(live.base(), entry),
             None => None,
         },
+        Row::Slice(history) => Some(history.row().slice.object),
         _ => None,
     }
 }
@@ -127,26 +141,26 @@ pub(crate) fn host_of(live: &Live, object: Option<Object>) -> Option<HostRow<'_>
 
 // ---- the rest of the base
 
-pub(crate) fn row_host_group(row: Row) -> Option<HostGroupId>
-    ensures { result ≡ row_host_group row }
+pub(crate) fn row_host_group(row: &Row) -> Option<HostGroupId>
+    ensures { result ≡ row_host_group row.now }
 {
     match row {
-        Row::HostGroup(id) | Row::HostOf(id, _) | Row::GroupService(id, _) => Some(id),
+        Row::HostGroup(id) | Row::HostOf(id, _) | Row::GroupService(id, _) => Some(*id),
         _ => None,
     }
 }
 
-pub(crate) fn row_service_group(row: Row) -> Option<ServiceGroupId>
-    ensures { result ≡ row_service_group row }
+pub(crate) fn row_service_group(row: &Row) -> Option<ServiceGroupId>
+    ensures { result ≡ row_service_group row.now }
 {
     match row {
-        Row::ServiceGroup(id) | Row::ServiceOf(id, _) => Some(id),
+        Row::ServiceGroup(id) | Row::ServiceOf(id, _) => Some(*id),
         _ => None,
     }
 }
 
-pub(crate) fn row_contact(base: &Base, row: Row) -> Option<&Contact>
-    ensures { option_copied result ≡ row_contact base.now row }
+pub(crate) fn row_contact<'a>(base: &'a Base, row: &Row) -> Option<&'a Contact>
+    ensures { option_copied result ≡ row_contact base.now row.now }
 {
     match row {
         Row::Contact(id) => base.contacts.as_slice().get(id.0 as usize),
@@ -154,8 +168,8 @@ pub(crate) fn row_contact(base: &Base, row: Row) -> Option<&Contact>
     }
 }
 
-pub(crate) fn row_contact_group(base: &Base, row: Row) -> Option<&ContactGroup>
-    ensures { option_copied result ≡ row_contact_group base.now row }
+pub(crate) fn row_contact_group<'a>(base: &'a Base, row: &Row) -> Option<&'a ContactGroup>
+    ensures { option_copied result ≡ row_contact_group base.now row.now }
 {
     match row {
         Row::ContactGroup(id) => base.contact_groups.as_slice().get(id.0 as usize),
@@ -163,8 +177,8 @@ pub(crate) fn row_contact_group(base: &Base, row: Row) -> Option<&ContactGroup>
     }
 }
 
-pub(crate) fn row_command(base: &Base, row: Row) -> Option<&Command>
-    ensures { option_copied result ≡ row_command base.now row }
+pub(crate) fn row_command<'a>(base: &'a Base, row: &Row) -> Option<&'a Command>
+    ensures { option_copied result ≡ row_command base.now row.now }
 {
     match row {
         Row::Command(id) => base.commands.as_slice().get(id.0 as usize),
@@ -172,8 +186,8 @@ pub(crate) fn row_command(base: &Base, row: Row) -> Option<&Command>
     }
 }
 
-pub(crate) fn row_period(base: &Base, row: Row) -> Option<&Period>
-    ensures { option_copied result ≡ row_period base.now row }
+pub(crate) fn row_period<'a>(base: &'a Base, row: &Row) -> Option<&'a Period>
+    ensures { option_copied result ≡ row_period base.now row.now }
 {
     match row {
         Row::Period(id) => base.periods.as_slice().get(id.0 as usize),
@@ -183,11 +197,11 @@ pub(crate) fn row_period(base: &Base, row: Row) -> Option<&Period>
 
 // ---- the schema
 
-pub(crate) fn row_entry(row: Row) -> Option<Entry>
-    ensures { result ≡ row_entry row }
+pub(crate) fn row_entry(row: &Row) -> Option<Entry>
+    ensures { result ≡ row_entry row.now }
 {
     match row {
-        Row::Column(place) => entry_at(place),
+        Row::Column(place) => entry_at(*place),
         _ => None,
     }
 }

@@ -18,7 +18,7 @@ ghost use Rattle.lq_tables.specs.Statuses.{AreOfHosts, AreOfServices};
 
 use crate::about::{
     host_of, row_command, row_comment, row_contact, row_contact_group, row_downtime, row_entry,
-    row_host_group, row_line, row_object, row_period, row_service_group, service_of,
+    row_host_group, row_line, row_object, row_period, row_service_group, row_slice, service_of,
 };
 use crate::contacts::{command_text, contact_text};
 use crate::groups::{
@@ -32,6 +32,7 @@ use crate::remarks::{
     comment_number, comment_text, comment_value, downtime_number, downtime_text, downtime_value,
 };
 use crate::row::Row;
+use crate::slice::{slice_number, slice_text, slice_value};
 use lq_auth::View;
 use lq_columns::{HostRow, ServiceRow, empty_number, empty_text, empty_value, status_number};
 use lq_events::{Comment, Downtime, LogEntry, Status};
@@ -50,10 +51,10 @@ use std::marker::Model;
 /// Where the row is about nothing of a column's kind, as a host's comment about no service, its
 /// cell is 0, an empty text or an empty list.
 #[derive(Drop)]
-pub struct RowCells<'a> {
+pub struct RowCells<'a, 'r> {
     live: &'a Live,
     view: &'a View,
-    row: Row,
+    row: &'r Row,
     host: Option<HostRow<'a>>,
     service: Option<ServiceRow<'a>>,
     downtime: Option<&'a Downtime>,
@@ -61,7 +62,7 @@ pub struct RowCells<'a> {
     line: Option<&'a LogEntry>,
 }
 
-impl<'a> Model for RowCells<'a> {
+impl<'a, 'r> Model for RowCells<'a, 'r> {
     ghost use Rattle.std.specs.Option.{option_copied, option_map};
     ghost use Rattle.lq_columns.specs.Cells.{host_record, service_record};
     ghost use Rattle.lq_tables.specs.About.{IsAbout};
@@ -72,10 +73,10 @@ impl<'a> Model for RowCells<'a> {
     ghost view = { λ cells. record {
       state = cells.live.now.state;
       view = cells.view.now;
-      row = cells.row;
+      row = cells.row.now;
     } };
 
-    ghost invariant = { λ cells. IsAbout cells.live.now.state cells.row (record {
+    ghost invariant = { λ cells. IsAbout cells.live.now.state cells.row.now (record {
       host = option_map host_record cells.host;
       service = option_map service_record cells.service;
       downtime = option_copied cells.downtime;
@@ -84,11 +85,11 @@ impl<'a> Model for RowCells<'a> {
     }) };
 }
 
-impl<'a> RowCells<'a> {
+impl<'a, 'r> RowCells<'a, 'r> {
     /// The cells of a row, of other objects as far as a query sees them.
     #[inline]
-    pub fn of(live: &'a Live, row: Row, view: &'a View) -> RowCells<'a>
-        ensures { result ≡ record { state = live.now.state; view = view.now; row = row } }
+    pub fn of(live: &'a Live, row: &'r Row, view: &'a View) -> RowCells<'a, 'r>
+        ensures { result ≡ record { state = live.now.state; view = view.now; row = row.now } }
     {
         let object = row_object(live, row);
         RowCells {
@@ -129,6 +130,7 @@ impl<'a> RowCells<'a> {
             OwnColumn::Downtime(column) => downtime_number(self.downtime, column),
             OwnColumn::Comment(column) => comment_number(self.comment, column),
             OwnColumn::Line(column) => line_number(self.line, column),
+            OwnColumn::Slice(column) => slice_number(row_slice(self.row), column),
             OwnColumn::Program(column) => program_number(self.live, self.row, column),
             _ => None,
         }
@@ -167,6 +169,7 @@ impl<'a> RowCells<'a> {
             OwnColumn::Downtime(column) => downtime_text(self.downtime, column),
             OwnColumn::Comment(column) => comment_text(self.comment, column),
             OwnColumn::Line(column) => line_text(self.line, column),
+            OwnColumn::Slice(column) => slice_text(live, row_slice(row), column),
             OwnColumn::Program(column) => program_text(row, column),
             OwnColumn::Schema(column) => schema_text(row_entry(row), column),
         }
@@ -211,6 +214,7 @@ impl<'a> RowCells<'a> {
             OwnColumn::Downtime(column) => Ok(downtime_value(alloc, self.downtime, column)),
             OwnColumn::Comment(column) => Ok(comment_value(alloc, self.comment, column)),
             OwnColumn::Line(column) => Ok(line_value(alloc, self.line, column)),
+            OwnColumn::Slice(column) => Ok(slice_value(alloc, live, row_slice(row), column)),
             OwnColumn::Program(column) => Ok(program_value(alloc, live, row, column)),
             OwnColumn::Schema(column) => schema_value(alloc, row_entry(row), column),
         }
@@ -220,9 +224,9 @@ impl<'a> RowCells<'a> {
 /// The number of one cell of a row, as `number` of `RowCells` gives it. Where few cells of a row
 /// are looked at it takes less: it finds alone what the column is about.
 #[inline]
-pub fn row_number(live: &Live, row: Row, c: Col) -> Option<i128>
+pub fn row_number(live: &Live, row: &Row, c: Col) -> Option<i128>
     ensures value { (view : View) → IfSome result (λ number.
-        cell_of live.now.state view row c ≡ Number number) }
+        cell_of live.now.state view row.now c ≡ Number number) }
     ensures given { IsNumber (own_kind c.own) → IsHeld c.own → IsSome result }
 {
     match c.own {
@@ -238,6 +242,7 @@ pub fn row_number(live: &Live, row: Row, c: Col) -> Option<i128>
         OwnColumn::Downtime(column) => downtime_number(row_downtime(live, row), column),
         OwnColumn::Comment(column) => comment_number(row_comment(live, row), column),
         OwnColumn::Line(column) => line_number(row_line(live, row), column),
+        OwnColumn::Slice(column) => slice_number(row_slice(row), column),
         OwnColumn::Program(column) => program_number(live, row, column),
         _ => None,
     }
@@ -246,14 +251,14 @@ pub fn row_number(live: &Live, row: Row, c: Col) -> Option<i128>
 /// The number of a column of hosts where the row is a host of their table, as `row_number` gives
 /// it; None for any other row. A loop over that table's rows has no other row to look for.
 #[inline(always)]
-pub fn host_number(live: &Live, row: Row, column: HostColumn) -> Option<i128>
+pub fn host_number(live: &Live, row: &Row, column: HostColumn) -> Option<i128>
     ensures value { (view : View) → IfSome result (λ number.
-        own_cell live.now.state view row (own.Host column) ≡ Number number) }
-    ensures given { IsHost live.now.state row → IsNumber (host_kind column)
+        own_cell live.now.state view row.now (own.Host column) ≡ Number number) }
+    ensures given { IsHost live.now.state row.now → IsNumber (host_kind column)
         → IsHeldByHost column → IsSome result }
 {
     match row {
-        Row::Host(id) => HostRow::at(live, id)?.number(column),
+        Row::Host(id) => HostRow::at(live, *id)?.number(column),
         _ => None,
     }
 }
@@ -261,14 +266,14 @@ pub fn host_number(live: &Live, row: Row, column: HostColumn) -> Option<i128>
 /// The number of a column of services where the row is a service of their table, as `row_number`
 /// gives it; None for any other row.
 #[inline(always)]
-pub fn service_number(live: &Live, row: Row, column: ServiceColumn) -> Option<i128>
+pub fn service_number(live: &Live, row: &Row, column: ServiceColumn) -> Option<i128>
     ensures value { (view : View) → IfSome result (λ number.
-        own_cell live.now.state view row (own.Service column) ≡ Number number) }
-    ensures given { IsService live.now.state row → IsNumber (service_kind column)
+        own_cell live.now.state view row.now (own.Service column) ≡ Number number) }
+    ensures given { IsService live.now.state row.now → IsNumber (service_kind column)
         → IsHeldByService column → IsSome result }
 {
     match row {
-        Row::Service(id) => ServiceRow::at(live, id)?.number(column),
+        Row::Service(id) => ServiceRow::at(live, *id)?.number(column),
         _ => None,
     }
 }
@@ -276,11 +281,11 @@ pub fn service_number(live: &Live, row: Row, column: ServiceColumn) -> Option<i1
 /// The number of a column of a host's status, as `host_number` gives it, out of the statuses of all
 /// hosts. A loop over many rows has these at hand, and looks at nothing else.
 #[inline(always)]
-pub fn host_status_number(statuses: &[Status], row: Row, column: StatusColumn) -> Option<i128>
+pub fn host_status_number(statuses: &[Status], row: &Row, column: StatusColumn) -> Option<i128>
     ensures value { (s : State) (view : View) → AreOfHosts s statuses.now
         → IfSome result (λ number.
-        own_cell s view row (own.Host (host_column.Status column)) ≡ Number number) }
-    ensures given { (s : State) → AreOfHosts s statuses.now → IsHost s row
+        own_cell s view row.now (own.Host (host_column.Status column)) ≡ Number number) }
+    ensures given { (s : State) → AreOfHosts s statuses.now → IsHost s row.now
         → IsNumber (status_kind column) → IsHeldByStatus column → IsSome result }
 {
     match row {
@@ -292,11 +297,11 @@ pub fn host_status_number(statuses: &[Status], row: Row, column: StatusColumn) -
 /// The number of a column of a service's status, as `service_number` gives it, out of the statuses
 /// of all services.
 #[inline(always)]
-pub fn service_status_number(statuses: &[Status], row: Row, column: StatusColumn) -> Option<i128>
+pub fn service_status_number(statuses: &[Status], row: &Row, column: StatusColumn) -> Option<i128>
     ensures value { (s : State) (view : View) → AreOfServices s statuses.now
         → IfSome result (λ number.
-        own_cell s view row (own.Service (service_column.Status column)) ≡ Number number) }
-    ensures given { (s : State) → AreOfServices s statuses.now → IsService s row
+        own_cell s view row.now (own.Service (service_column.Status column)) ≡ Number number) }
+    ensures given { (s : State) → AreOfServices s statuses.now → IsService s row.now
         → IsNumber (status_kind column) → IsHeldByStatus column → IsSome result }
 {
     match row {
@@ -308,13 +313,13 @@ pub fn service_status_number(statuses: &[Status], row: Row, column: StatusColumn
 /// The text of a column of hosts where the row is a host of their table, as `row_text` gives it;
 /// None for any other row.
 #[inline(always)]
-pub fn host_text(live: &Live, row: Row, column: HostColumn) -> Option<&str>
+pub fn host_text<'a>(live: &'a Live, row: &Row, column: HostColumn) -> Option<&'a str>
     ensures value { (view : View) → IfSome result (λ text.
-        own_cell live.now.state view row (own.Host column) ≡ Words text.now) }
-    ensures given { IsHost live.now.state row → IsText (host_kind column) → IsSome result }
+        own_cell live.now.state view row.now (own.Host column) ≡ Words text.now) }
+    ensures given { IsHost live.now.state row.now → IsText (host_kind column) → IsSome result }
 {
     match row {
-        Row::Host(id) => HostRow::at(live, id)?.text(column),
+        Row::Host(id) => HostRow::at(live, *id)?.text(column),
         _ => None,
     }
 }
@@ -322,23 +327,23 @@ pub fn host_text(live: &Live, row: Row, column: HostColumn) -> Option<&str>
 /// The text of a column of services where the row is a service of their table, as `row_text` gives
 /// it; None for any other row.
 #[inline(always)]
-pub fn service_text(live: &Live, row: Row, column: ServiceColumn) -> Option<&str>
+pub fn service_text<'a>(live: &'a Live, row: &Row, column: ServiceColumn) -> Option<&'a str>
     ensures value { (view : View) → IfSome result (λ text.
-        own_cell live.now.state view row (own.Service column) ≡ Words text.now) }
-    ensures given { IsService live.now.state row → IsText (service_kind column)
+        own_cell live.now.state view row.now (own.Service column) ≡ Words text.now) }
+    ensures given { IsService live.now.state row.now → IsText (service_kind column)
         → IsSome result }
 {
     match row {
-        Row::Service(id) => ServiceRow::at(live, id)?.text(column),
+        Row::Service(id) => ServiceRow::at(live, *id)?.text(column),
         _ => None,
     }
 }
 
 /// The text of one cell of a row, as `text` of `RowCells` gives it.
 #[inline]
-pub fn row_text<'a>(live: &'a Live, row: Row, c: Col, view: &'a View) -> Option<&'a str>
+pub fn row_text<'a>(live: &'a Live, row: &Row, c: Col, view: &'a View) -> Option<&'a str>
     ensures value { IfSome result (λ text.
-        cell_of live.now.state view.now row c ≡ Words text.now) }
+        cell_of live.now.state view.now row.now c ≡ Words text.now) }
     ensures given { IsText (own_kind c.own) → IsLight c.own → IsSome result }
 {
     match c.own {
@@ -353,6 +358,7 @@ pub fn row_text<'a>(live: &'a Live, row: Row, c: Col, view: &'a View) -> Option<
         OwnColumn::Downtime(column) => downtime_text(row_downtime(live, row), column),
         OwnColumn::Comment(column) => comment_text(row_comment(live, row), column),
         OwnColumn::Line(column) => line_text(row_line(live, row), column),
+        OwnColumn::Slice(column) => slice_text(live, row_slice(row), column),
         _ => RowCells::of(live, row, view).text(c),
     }
 }
@@ -360,9 +366,9 @@ pub fn row_text<'a>(live: &'a Live, row: Row, c: Col, view: &'a View) -> Option<
 /// Whether the list in one cell of a row has a text: for the contacts and the contact groups of a
 /// host or a service, None for any other cell. It takes no memory.
 #[inline]
-pub fn row_contains(live: &Live, row: Row, c: Col, text: &str) -> Option<bool>
+pub fn row_contains(live: &Live, row: &Row, c: Col, text: &str) -> Option<bool>
     ensures value { (view : View) → IfSome result (λ found. (texts : List (List ℕ))
-        × (cell_of live.now.state view row c ≡ Texts texts)
+        × (cell_of live.now.state view row.now c ≡ Texts texts)
         × (found ≡ has_text text.now texts)) }
     ensures given { IsSearchedIn c.own → IsSome result }
 {
@@ -397,17 +403,18 @@ fn empty_contains(kind: ColKind) -> Option<bool>
 /// Whether the contacts of a host have one, where the row is a host of their table; None for any
 /// other row. `contact_named` finds the contact.
 #[inline]
-pub fn host_lists_contact(live: &Live, row: Row, contact: Option<ContactId>) -> Option<bool>
+pub fn host_lists_contact(live: &Live, row: &Row, contact: Option<ContactId>) -> Option<bool>
     ensures value { (view : View) (name : List ℕ) → IsContactNamed live.now.state.base name contact
         → IfSome result (λ found. (texts : List (List ℕ))
-        × (own_cell live.now.state view row (own.Host (host_column.Object object_column.Contacts))
+        × (own_cell live.now.state view row.now
+        (own.Host (host_column.Object object_column.Contacts))
         ≡ Texts texts)
         × (found ≡ has_text name texts)) }
-    ensures given { IsHost live.now.state row → IsSome result }
+    ensures given { IsHost live.now.state row.now → IsSome result }
 {
     match row {
         Row::Host(id) => {
-            let about = HostRow::at(live, id)?;
+            let about = HostRow::at(live, *id)?;
             Some(about.lists_contact(live.base(), contact))
         }
         _ => None,
@@ -417,18 +424,18 @@ pub fn host_lists_contact(live: &Live, row: Row, contact: Option<ContactId>) -> 
 /// Whether the contacts of a service have one, where the row is a service of their table; None for
 /// any other row. `contact_named` finds the contact.
 #[inline]
-pub fn service_lists_contact(live: &Live, row: Row, contact: Option<ContactId>) -> Option<bool>
+pub fn service_lists_contact(live: &Live, row: &Row, contact: Option<ContactId>) -> Option<bool>
     ensures value { (view : View) (name : List ℕ) → IsContactNamed live.now.state.base name contact
         → IfSome result (λ found. (texts : List (List ℕ))
-        × (own_cell live.now.state view row
+        × (own_cell live.now.state view row.now
         (own.Service (service_column.Object object_column.Contacts))
         ≡ Texts texts)
         × (found ≡ has_text name texts)) }
-    ensures given { IsService live.now.state row → IsSome result }
+    ensures given { IsService live.now.state row.now → IsSome result }
 {
     match row {
         Row::Service(id) => {
-            let about = ServiceRow::at(live, id)?;
+            let about = ServiceRow::at(live, *id)?;
             Some(about.lists_contact(live.base(), contact))
         }
         _ => None,
@@ -450,5 +457,5 @@ pub fn cell<'a>(
     ensures value { IfOk result (λ v. shown v ≡ cell_of live.now.state view.now r.now c) }
     ensures plain { IsLight c.own → IsOk result }
 {
-    RowCells::of(live, *r, view).value(alloc, c)
+    RowCells::of(live, r, view).value(alloc, c)
 }

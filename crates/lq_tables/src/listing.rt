@@ -1,14 +1,16 @@
-ghost use Rattle.std.specs.Prelude.{◌≡◌, ◌<◌, ◌^◌, [], ◌∷◌, ◌++◌, IfOk, OnOk, length, map, filter};
+ghost use Rattle.std.specs.Prelude.{◌≡◌, ◌<◌, ◌^◌, [], ◌∷◌, ◌++◌, IfNone, IfOk, IfSome, OnOk, false, length, map, filter};
 ghost use Rattle.std.specs.List.{flat_map, range_with_len};
 ghost use Rattle.lq_live.specs.Ids.{HasRisingIds};
-ghost use Rattle.lq_tables.specs.Rows.{group_service_rows, host_group_rows, numbered, places_of, runs_on, service_group_rows, service_rows, table_rows};
+ghost use Rattle.lq_schema.specs.declared.columns.Table.TheVariants as table;
+ghost use Rattle.lq_tables.specs.Rows.{group_service_rows, has_line_within, host_group_rows, is_history, is_within, numbered, places_of, runs_on, service_group_rows, service_rows, table_rows};
 ghost use Rattle.lq_tables.specs.Schema.{schema};
 ghost use Rattle.lq_tables.specs.declared.row.Row.TheVariants as row;
 
 use crate::listed::Listed;
 use crate::row::Row;
 use crate::schema::entry_count;
-use lq_events::{Comment, Downtime};
+use crate::window::Window;
+use lq_events::{Comment, Downtime, LogEntry};
 use lq_live::Live;
 use lq_records::{
     HostGroup, HostGroupId, HostId, Memory, Service, ServiceGroup, ServiceGroupId, ServiceId,
@@ -17,10 +19,19 @@ use lq_schema::Table;
 use std::alloc::Global;
 
 /// All rows of a table, in order: objects as the object file lists them, downtimes and comments by
-/// their ids, the lines of the log as they stand there, the members of each group as the group
-/// lists them. The only error is out of memory.
-pub(crate) fn table_rows(alloc: Global, live: &Live, t: Table) -> Result<Vec<Row>, Memory>
-    ensures all { IfOk result (λ rows. rows.items ≡ table_rows live.now.state t) }
+/// their ids, the lines of the log within the window as they stand there, the members of each group
+/// as the group lists them. None for the table of histories, which nothing lists. The only error is
+/// out of memory.
+pub(crate) fn listed_rows(
+    alloc: Global,
+    live: &Live,
+    t: Table,
+    window: &Window,
+) -> Result<Option<Vec<Row>>, Memory>
+    ensures all { IfOk result (λ listed. IfSome listed
+        (λ rows. rows.items ≡ table_rows live.now.state window.now t)) }
+    ensures listed { IfOk result (λ listed. IfSome listed (λ rows. is_history t ≡ false)) }
+    ensures history { IfOk result (λ listed. IfNone listed (t ≡ table.StateHist)) }
     ensures ids { HasRisingIds live.now.state }
 {
     let base = live.base();
@@ -36,7 +47,7 @@ pub(crate) fn table_rows(alloc: Global, live: &Live, t: Table) -> Result<Vec<Row
         Table::TimePeriods => Listed::Periods.rows(alloc, base.periods.len())?,
         Table::Downtimes => downtime_rows(alloc, downtimes)?,
         Table::Comments => comment_rows(alloc, comments)?,
-        Table::Log => line_rows(alloc, live.log().len())?,
+        Table::Log => line_rows(alloc, live.log().entries(), window)?,
         Table::Status => status_rows(alloc)?,
         Table::Columns => column_rows(alloc)?,
         Table::HostsByGroup => hosts_by_group(alloc, base.host_groups.as_slice())?,
@@ -46,8 +57,9 @@ pub(crate) fn table_rows(alloc: Global, live: &Live, t: Table) -> Result<Vec<Row
             base.services.as_slice(),
             base.host_groups.as_slice(),
         )?,
+        Table::StateHist => return Ok(None),
     };
-    Ok(rows)
+    Ok(Some(rows))
 }
 
 fn downtime_rows(alloc: Global, downtimes: &[Downtime]) -> Result<Vec<Row>, Memory>
@@ -70,10 +82,31 @@ fn comment_rows(alloc: Global, comments: &[Comment]) -> Result<Vec<Row>, Memory>
         .collect(alloc)
 }
 
-fn line_rows(alloc: Global, count: usize) -> Result<Vec<Row>, Memory>
-    ensures { IfOk result (λ rows. rows.items ≡ map row.Line (range_with_len 0 count)) }
+fn line_rows(alloc: Global, log: &[LogEntry], window: &Window) -> Result<Vec<Row>, Memory>
+    ensures { IfOk result (λ rows. rows.items
+        ≡ map row.Line (filter (has_line_within window.now log.now) (places_of log.now))) }
 {
-    (0..count as u64).map(Row::Line).collect(alloc)
+    (0..log.len() as u64)
+        .filter(|place| has_line_within(window, log, *place))
+        .map(Row::Line)
+        .collect(alloc)
+}
+
+/// Whether the second of the line at a place is within a window.
+fn has_line_within(window: &Window, log: &[LogEntry], place: u64) -> bool
+    ensures { result ≡ has_line_within window.now log.now place }
+{
+    match log.get(place as usize) {
+        Some(line) => is_within(window, line),
+        None => false,
+    }
+}
+
+/// Whether the second of a line is within a window.
+fn is_within(window: &Window, line: &LogEntry) -> bool
+    ensures { result ≡ is_within window.now line.now }
+{
+    window.from <= line.time && line.time < window.until
 }
 
 fn status_rows(alloc: Global) -> Result<Vec<Row>, Memory>
@@ -178,8 +211,8 @@ fn push_services_of(
         ≡ rows.old.items ++ flat_map (service_rows services.now group) members.now) }
 {
     for host in members {
-        let found = services_of(alloc, services, group, *host)?;
-        rows.extend_from_slice(&found)?;
+        let mut found = services_of(alloc, services, group, *host)?;
+        rows.append(&mut found)?;
     }
     Ok(())
 }

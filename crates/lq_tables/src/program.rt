@@ -21,9 +21,9 @@ use std::alloc::Global;
 
 /// The number of a column on the program, None where it is a text. 0 in every row but that of the
 /// status table.
-pub(crate) fn program_number(live: &Live, row: Row, column: ProgramColumn) -> Option<i128>
+pub(crate) fn program_number(live: &Live, row: &Row, column: ProgramColumn) -> Option<i128>
     ensures value { IfSome result (λ number.
-        program_part live.now.state row column ≡ Number number) }
+        program_part live.now.state row.now column ≡ Number number) }
     ensures given { IsNumber (program_kind column) → IsSome result }
 {
     let Row::Status = row else {
@@ -40,9 +40,9 @@ pub(crate) fn program_number(live: &Live, row: Row, column: ProgramColumn) -> Op
 
 /// The text of a column on the program, None where it is a number. Empty in every row but that of
 /// the status table.
-pub(crate) fn program_text(row: Row, column: ProgramColumn) -> Option<&'static str>
+pub(crate) fn program_text(row: &Row, column: ProgramColumn) -> Option<&'static str>
     ensures value { (s : State) → IfSome result (λ text.
-        program_part s row column ≡ Words text.now) }
+        program_part s row.now column ≡ Words text.now) }
     ensures given { IsText (program_kind column) → IsSome result }
 {
     let Row::Status = row else {
@@ -57,10 +57,10 @@ pub(crate) fn program_text(row: Row, column: ProgramColumn) -> Option<&'static s
 pub(crate) fn program_value(
     alloc: Global,
     live: &Live,
-    row: Row,
+    row: &Row,
     column: ProgramColumn,
 ) -> Val<'static>
-    ensures { shown result ≡ program_part live.now.state row column }
+    ensures { shown result ≡ program_part live.now.state row.now column }
 {
     let Row::Status = row else {
         return empty_value(alloc, OwnColumn::Program(column).kind());

@@ -1,9 +1,10 @@
+use crate::history_row::BoxedHistoryRow;
 use lq_records::{
     CommandId, ContactGroupId, ContactId, HostGroupId, HostId, PeriodId, ServiceGroupId, ServiceId,
 };
 
 /// A row of a table.
-#[derive(Clone, Copy)]
+#[derive(Drop)]
 pub enum Row {
     Host(HostId),
     Service(ServiceId),
@@ -30,4 +31,6 @@ pub enum Row {
     ServiceOf(ServiceGroupId, ServiceId),
     /// A service of a host that is a member of a group.
     GroupService(HostGroupId, ServiceId),
+    /// A slice of the history of a host or a service.
+    Slice(BoxedHistoryRow),
 }

@@ -29,7 +29,7 @@ pub(crate) fn entry_at(place: u64) -> Option<Entry>
 /// How many columns some tables have together.
 #[tactic(auto, using(crate::proofs::Entries::few))]
 fn count_in(tables: &[Table]) -> u64
-    requires { length tables.now ≤ 16 }
+    requires { length tables.now ≤ 17 }
     ensures { result ≡ length (flat_map entries_of tables.now) }
 {
     let mut count = 0;

@@ -27,6 +27,8 @@ mod rights;
 #[cfg(test)]
 mod schema;
 #[cfg(test)]
+mod statehist;
+#[cfg(test)]
 mod stats;
 #[cfg(test)]
 mod tables;

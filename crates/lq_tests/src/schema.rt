@@ -49,6 +49,13 @@ const CONTACT: &[&str] = &[
     "host_notification_period S,service_notification_period S",
 ];
 
+const SLICE: &[&str] = &[
+    "time I,from I,until I,duration I,duration_part I,duration_ok I,duration_warning I",
+    "duration_critical I,duration_unknown I,duration_unmonitored I,state I,host_down I",
+    "in_downtime I,in_host_downtime I,is_flapping I,in_notification_period I",
+    "notification_period S,host_name S,service_description S,log_output S",
+];
+
 const DOWNTIME: &[&str] = &[
     "id I,author S,comment S,entry_time I,start_time I,end_time I",
     "fixed I,duration I,triggered_by I,is_service I",
@@ -148,6 +155,16 @@ const LISTED: &[Listed] = &[
         "service_",
         99,
         &[("", SERVICE), ("host_", HOST), ("hostgroup_", HOST_GROUP)],
+    ),
+    (
+        "statehist",
+        "statehist_",
+        100,
+        &[
+            ("", SLICE),
+            ("current_host_", HOST),
+            ("current_service_", SERVICE),
+        ],
     ),
 ];
 
@@ -315,7 +332,12 @@ log;current_host_name;current_host_|name
 log;log_current_service_state;current_service_|state
 log;service_state;none
 logs;time;no table
-statehist;name;no table
+statehist;name;none
+statehist;statehist_time;|time
+statehist;host_name;|host_name
+statehist;current_host_name;current_host_|name
+statehist;current_service_host_name;none
+Statehist;time;no table
 ;name;no table
 ";
 

@@ -401,10 +401,10 @@ fn words_decide_what_is_done(rt: HostRuntime) -> Result<(), Fail> {
 
 /// The lines of two workloads, whose replies another program generated and counted.
 const LOAD_1_000_000: &[u8] =
-    b"hosts 100 services 1000 lines 2000 commands 50 queries 20 bytes 3431 sum 214491\n";
+    b"hosts 100 services 1000 lines 2000 commands 50 queries 20 bytes 3632 sum 224053\n";
 
 const LOAD_7: &[u8] =
-    b"hosts 100 services 1000 lines 2000 commands 50 queries 20 bytes 2789 sum 174321\n";
+    b"hosts 100 services 1000 lines 2000 commands 50 queries 20 bytes 2999 sum 184313\n";
 
 #[test]
 fn a_load_is_told_in_one_line(rt: HostRuntime) -> Result<(), Fail> {

@@ -13,8 +13,8 @@ loop-place-preserved g c = elim c.if-marks-place.branch [
     kept = rw (w.marks-is) (kept_next (λ row. truth_on (g.S.Scan.cell c.args.block.now.scan.now row) (test_of c.args.self.now)) c.args.block.now.rows.now c.args.marks.now c.loop-place.marks c.args.start c.loop-place.place w.in_ok-marks.field-0
         c.loop-place.invariant.kept (omega arith) (omega arith) w.if-marks-place.true
         (λ other. w.in_ok-marks.ensures.met
-        ∙ ap (λ (test : Test). truth_on (g.S.Scan.cell w.at.result.scan.now w.at.result.row) test) c.loop-place.invariant.same
-        ∙ ap (λ scan. truth_on (g.S.Scan.cell scan w.at.result.row) (test_of c.args.self.now)) w.at.ensures.scan
+        ∙ ap (λ (test : Test). truth_on (g.S.Scan.cell w.at.result.scan.now w.at.result.row.now) test) c.loop-place.invariant.same
+        ∙ ap (λ scan. truth_on (g.S.Scan.cell scan w.at.result.row.now) (test_of c.args.self.now)) w.at.ensures.scan
         ∙ ap (λ row. truth_on (g.S.Scan.cell c.args.block.now.scan.now row) (test_of c.args.self.now)) (w.at.ensures.row other)));
   }
   | else-marks-place w ↦ record {

@@ -29,26 +29,29 @@ pub loop-place-preserved : goal.loop-place-preserved
 loop-place-preserved c =
     let key : Row → Key = λ row. row_cells c.args.self.now.columns.now (seen_cells c.args.self.now.sight row) in
     let columns : List (List StatCell) = map column_cells c.args.cells.now in
-    let row : Row = Host (record { 0 = 0 }) in
-    let more = counted_more key columns c.args.marks.now c.args.rows.now c.loop-place.place row c.requires.marks c.loop-place-test.true in
+    let more = λ (row : Row). counted_more key columns c.args.marks.now c.args.rows.now c.loop-place.place row c.requires.marks c.loop-place-test.true in
     elim c.if-marks-place.branch [
       | then-marks-place+in_ok-take_cells+in_ok-count_row w ↦
+          let row : Row = w.index-rows-place.result in
           let marked = ap (λ mark. counted_from key c.loop-place.place (mark ∷ []) (get_or c.args.rows.now c.loop-place.place row ∷ []) columns) w.if-marks-place.true in
           let taken = w.deref.ensures.value ∙ w.in_ok-take_cells.ensures in
           rw (w.groups-is)
           (subst (λ (rows : List StatsRow). Counts c.args.groups.now w.count_row.new.groups rows)
-          (ap (λ (cells : List StatCell). counted_from key 0 (take c.loop-place.place c.args.marks.now) (take c.loop-place.place c.args.rows.now) columns
+          (ap (λ (taken : Row). counted_from key 0 (take c.loop-place.place c.args.marks.now) (take c.loop-place.place c.args.rows.now) columns
+          ++ record { key = key taken; cells = w.deref.result.now } ∷ []) w.index-rows-place.is
+          ∙ ap (λ (cells : List StatCell). counted_from key 0 (take c.loop-place.place c.args.marks.now) (take c.loop-place.place c.args.rows.now) columns
           ++ record { key = key (get_or c.args.rows.now c.loop-place.place row); cells = cells } ∷ []) taken
           ∙ ap (λ (rows : List StatsRow). counted_from key 0 (take c.loop-place.place c.args.marks.now) (take c.loop-place.place c.args.rows.now) columns ++ rows) (sym marked)
-          ∙ sym more)
+          ∙ sym (more row))
           (counts_then _ _ _ _ _ c.loop-place.invariant w.in_ok-count_row.ensures))
       | else-marks-place w ↦
+          let row : Row = Host (record { 0 = 0 }) in
           let marked = ap (λ mark. counted_from key c.loop-place.place (mark ∷ []) (get_or c.args.rows.now c.loop-place.place row ∷ []) columns) w.if-marks-place.false in
           rw (w.groups-is)
           (subst (λ (rows : List StatsRow). Counts c.args.groups.now c.loop-place.groups rows)
           (sym (append-nil (counted_from key 0 (take c.loop-place.place c.args.marks.now) (take c.loop-place.place c.args.rows.now) columns))
           ∙ ap (λ (rows : List StatsRow). counted_from key 0 (take c.loop-place.place c.args.marks.now) (take c.loop-place.place c.args.rows.now) columns ++ rows) (sym marked)
-          ∙ sym more) c.loop-place.invariant)
+          ∙ sym (more row)) c.loop-place.invariant)
     ]
 
 pub returns : goal.returns

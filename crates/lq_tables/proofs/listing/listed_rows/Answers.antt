@@ -1,5 +1,5 @@
 use Rattle.lq_tables.proofs.OwnLemmas.{has_rising}
-use Rattle.lq_tables.proofs.listing.table_rows.Goals as goal
+use Rattle.lq_tables.proofs.listing.listed_rows.Goals as goal
 
 pub returns-clause-ids : goal.returns-clause-ids
 returns-clause-ids c =
