@@ -15,6 +15,7 @@ pub mod Begun
 pub mod Kept
 pub mod Copied
 pub mod Opened
+pub mod Parted
 pub mod Front
 pub mod Apply
 pub mod ToldLemmas

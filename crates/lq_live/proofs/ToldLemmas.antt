@@ -1,5 +1,5 @@
 -- What the log last told, after one more line.
-use Rattle.std.proofs.Common.{◌≡◌, ◌≢◌, ℕ, zero, suc, ◌<◌, ◌==◌, ◌&&◌, not, Bool, true, false, Option, Some, None, List, [], ◌∷◌, ◌++◌, length, map, fold, position, slice_index_or, slice_set, bytes_eq, refl, sym, ap, subst, ◌∙◌, true≢false, arith, if◌then◌else◌}
+use Rattle.std.proofs.Common.{◌≡◌, ℕ, zero, suc, ◌<◌, ◌==◌, ◌&&◌, not, Bool, true, false, Option, Some, None, List, [], ◌∷◌, ◌++◌, length, map, slice_index_or, slice_set, bytes_eq, refl, sym, ap, subst, ◌∙◌, true≢false, arith, if◌then◌else◌}
 use Rattle.std.specs.Arc.{arc_value}
 use Rattle.std.specs.List.{range_with_len}
 use Rattle.std.specs.Option.{option_map_or, unwrap_or}
@@ -15,7 +15,7 @@ use Rattle.lq_records.specs.declared.ids.ServiceId.{ServiceId}
 use Rattle.lq_records.specs.declared.object.Object.{Object}
 use Rattle.lq_records.specs.declared.object.Object.TheVariants as object
 use Rattle.lq_events.specs.declared.log_entry.LogEntry.{LogEntry}
-use Rattle.lq_log.specs.LastTold.{flapping_in, flapping_told, is_flapping, is_period_on, last_told, period_in, period_of_kind, period_told}
+use Rattle.lq_log.specs.LastTold.{flapping_in, flapping_told, last_told, period_in, period_of_kind, period_told}
 use Rattle.lq_log.specs.Told.{object_of, told_by}
 use Rattle.lq_log.specs.declared.telling.Told.TheVariants as telling
 use Rattle.lq_live.specs.LastTold.{AreTold, hosts_with, periods_with, place_of_name, services_with}

@@ -10,5 +10,7 @@ pub mod Kept
 pub mod Edits
 pub mod StepEdits
 pub mod Opening
+pub mod Whole
+pub mod NamedServices
 pub mod Order
 pub mod Depths

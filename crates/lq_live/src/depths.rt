@@ -47,8 +47,8 @@ impl Depths {
     /// Counts a downtime, where it is active.
     fn count(&mut self, downtime: &Downtime)
         requires { IfSome (counted_depth self.old downtime.now.object) (λ n. n + 1 < 2 ^ 64) }
-        ensures { self.new
-            ≡ if downtime.now.active then with_depth true downtime.now.object self.old else self.old }
+        ensures { self.new ≡ if downtime.now.active
+            then with_depth true downtime.now.object self.old else self.old }
     {
         if downtime.active {
             self.change(true, downtime.object);

@@ -59,18 +59,9 @@ impl LastTold {
         })
     }
 
-    /// What the lines of a log last told of the objects of a base and of time periods. The only
-    /// error is out of memory.
-    pub(crate) fn after(alloc: Global, base: &Base, log: &[LogEntry]) -> Result<Self, Memory>
-        ensures { IfOk result (λ told. AreTold told base.now log.now) }
-    {
-        let mut told = LastTold::new(alloc, base)?;
-        told.add_lines(base, log);
-        Ok(told)
-    }
-
-    /// What is known without a log: nothing is flapping, and each period is on.
-    fn new(alloc: Global, base: &Base) -> Result<Self, Memory>
+    /// What is known without a log: nothing is flapping, and each period is on. The only error is
+    /// out of memory.
+    pub(crate) fn new(alloc: Global, base: &Base) -> Result<Self, Memory>
         ensures { IfOk result (λ told. AreTold told base.now []) }
     {
         let names = period_names(alloc, base)?;
@@ -82,16 +73,7 @@ impl LastTold {
         })
     }
 
-    /// Takes in what the lines of a log tell.
-    fn add_lines(&mut self, base: &Base, log: &[LogEntry])
-        ensures { AreTold self.old base.now [] → AreTold self.new base.now log.now }
-    {
-        for entry in log {
-            self.add_line(base, entry);
-        }
-    }
-
-    /// Takes in what one more line tells.
+    /// Takes in what one more line of a log tells.
     pub(crate) fn add_line(&mut self, base: &Base, entry: &LogEntry)
         ensures { (log : List LogEntry) → AreTold self.old base.now log
             → AreTold self.new base.now (log ++ entry.now ∷ []) }

@@ -15,6 +15,7 @@ mod event;
 mod last_told;
 mod live;
 mod live_state;
+mod named_services;
 mod names;
 mod opening;
 mod outcome;

@@ -13,7 +13,6 @@ ghost use Rattle.lq_live.specs.Downtimes.{IsDue, due};
 ghost use Rattle.lq_live.specs.Step.{second_after, step};
 
 use crate::edit::{play, reserve};
-use crate::last_told::LastTold;
 use crate::live_state::LiveState;
 use crate::step::step_edits;
 use lq_events::{Comment, Downtime, Status, Update};
@@ -45,8 +44,8 @@ impl Model for Live {
 impl Live {
     /// The opening state of a sound base and its log. Each object is pending, and then each line of
     /// the log that tells a state of an object is recorded with its second. There are no downtimes
-    /// and comments, people are notified, and the present second is that of the last line, 0 without
-    /// one. The only error is out of memory.
+    /// and comments, people are notified, and the present second is that of the last line, 0
+    /// without one. The only error is out of memory.
     pub fn open(alloc: Global, base: Base, log: LogBook) -> Result<Self, Memory>
         requires { IsSound base }
         ensures { IfOk result
@@ -54,7 +53,6 @@ impl Live {
     {
         let mut state = LiveState::pending(alloc, base)?;
         state.record_lines(alloc, log.entries())?;
-        state.told = LastTold::after(alloc, &state.base, log.entries())?;
         state.present = log.last_time();
         state.log = log;
         Ok(Live {

@@ -2,22 +2,28 @@ ghost use Rattle.std.specs.Prelude.{◌≡◌, IfOk, OnOk, map};
 ghost use Rattle.std.specs.Arc.{arc_value};
 ghost use Rattle.std.specs.Option.{option_copied};
 ghost use Rattle.lq_live.specs.Kept.{state_of};
+ghost use Rattle.lq_live.specs.LastTold.{AreTold};
+ghost use Rattle.lq_live.specs.NamedServices.{AreKnown};
 ghost use Rattle.lq_live.specs.Opening.{status_told, with_line, with_lines};
 ghost use Rattle.lq_live.specs.State.{all_pending, object_status, pending, with_status};
+ghost use Rattle.lq_live.specs.Whole.{all_parted, parted, whole_told};
 
 use crate::last_told::LastTold;
 use crate::live_state::{LiveState, set_status};
-use crate::outcome::{CheckAttempt, Outcome};
+use crate::named_services::NamedServices;
+use crate::outcome::{CheckAttempt, Outcome, StatusTexts, after_bar, before_bar};
 use lq_events::{LogEntry, Status};
-use lq_log::{LogBook, Told, object_of, told_by};
+use lq_log::{LogBook, Told, told_by};
 use lq_records::{Base, Host, Memory, Object, Service, Text};
 use std::alloc::Global;
 use std::sync::Arc;
 
 impl LiveState {
     /// Each object of a base pending, without a log. The only error is out of memory.
+    #[tactic(auto, using(crate::proofs::Parted::pending_parted))]
     pub(crate) fn pending(alloc: Global, base: Base) -> Result<Self, Memory>
-        ensures { IfOk result (λ live. state_of live ≡ all_pending base) }
+        ensures state { IfOk result (λ live. state_of live ≡ all_pending base) }
+        ensures parted { IfOk result (λ live. all_parted (state_of live) ≡ all_pending base) }
     {
         let host_status = pending_hosts(alloc, base.hosts.as_slice())?;
         let service_status = pending_services(alloc, base.services.as_slice())?;
@@ -38,44 +44,52 @@ impl LiveState {
         })
     }
 
-    /// Records the state and alert lines of a log. The only error is out of memory.
+    /// Records the state and alert lines of a log, and what it last told. The only error is out of
+    /// memory.
     pub(crate) fn record_lines(&mut self, alloc: Global, log: &[LogEntry]) -> Result<(), Memory>
-        ensures { OnOk result (state_of self.new ≡ with_lines log.now (state_of self.old)) }
+        ensures state { OnOk result
+            (state_of self.new ≡ with_lines log.now (all_parted (state_of self.old))) }
+        ensures told { OnOk result (AreTold self.new.told (arc_value self.new.base) log.now) }
     {
+        let mut services = NamedServices::new(alloc, &self.base, log.len())?;
+        let mut told = LastTold::new(alloc, &self.base)?;
         for entry in log {
-            self.record_line(alloc, entry)?;
+            self.record_line(&mut services, entry)?;
+            told.add_line(&self.base, entry);
         }
-        Ok(())
+        self.told = told;
+        part_all(alloc, &mut self.host_status)?;
+        part_all(alloc, &mut self.service_status)
     }
 
-    /// Records a line, where it is a state or alert line about an object.
-    fn record_line(&mut self, alloc: Global, entry: &LogEntry) -> Result<(), Memory>
-        ensures { OnOk result (state_of self.new ≡ with_line entry.now (state_of self.old)) }
+    /// Records a line, where it is a state or alert line about an object. Its output is kept whole.
+    fn record_line(&mut self, services: &mut NamedServices, entry: &LogEntry) -> Result<(), Memory>
+        requires { AreKnown (arc_value self.old.base) services.old }
+        ensures known { OnOk result (AreKnown (arc_value self.new.base) services.new) }
+        ensures state { OnOk result (all_parted (state_of self.new)
+            ≡ with_line entry.now (all_parted (state_of self.old))) }
+        ensures base { arc_value self.new.base ≡ arc_value self.old.base }
     {
         let Some(Told::State { hard }) = told_by(entry) else {
             return Ok(());
         };
-        let Some(object) = object_of(&self.base, entry) else {
+        let Some(object) = services.find(&self.base, entry)? else {
             return Ok(());
         };
-        self.record_state(alloc, object, hard, entry)
+        self.record_state(object, hard, entry)
     }
 
     /// Records the state that a line tells of an object.
-    fn record_state(
-        &mut self,
-        alloc: Global,
-        object: Object,
-        hard: bool,
-        entry: &LogEntry,
-    ) -> Result<(), Memory>
-        ensures { OnOk result (state_of self.new
-            ≡ with_status (status_told entry.now hard) object (state_of self.old)) }
+    #[tactic(auto, using(crate::proofs::Parted::none_parted))]
+    fn record_state(&mut self, object: Object, hard: bool, entry: &LogEntry) -> Result<(), Memory>
+        ensures state { OnOk result (all_parted (state_of self.new)
+            ≡ with_status (status_told entry.now hard) object (all_parted (state_of self.old))) }
+        ensures base { arc_value self.new.base ≡ arc_value self.old.base }
     {
         let Some(old) = self.status_of(object) else {
             return Ok(());
         };
-        let status = status_told(alloc, entry, hard, old)?;
+        let status = whole_told(entry, hard, old)?;
         self.set_status(object, status);
         Ok(())
     }
@@ -91,7 +105,8 @@ impl LiveState {
     }
 
     fn set_status(&mut self, object: Object, status: Status)
-        ensures { state_of self.new ≡ with_status (λ _. status) object (state_of self.old) }
+        ensures state { state_of self.new ≡ with_status (λ _. status) object (state_of self.old) }
+        ensures base { arc_value self.new.base ≡ arc_value self.old.base }
     {
         match object {
             Object::Host(id) => set_status(&mut self.host_status, id.0 as usize, status),
@@ -100,9 +115,9 @@ impl LiveState {
     }
 }
 
-/// The status after a state or alert line.
-fn status_told(alloc: Global, entry: &LogEntry, hard: bool, old: &Status) -> Result<Status, Memory>
-    ensures { IfOk result (λ status. status ≡ status_told entry.now hard old.now) }
+/// The status after a state or alert line, with the whole output: it shares that with the line.
+fn whole_told(entry: &LogEntry, hard: bool, old: &Status) -> Result<Status, Memory>
+    ensures { IfOk result (λ status. status ≡ whole_told entry.now hard old.now) }
 {
     let outcome = Outcome {
         second: entry.time,
@@ -113,7 +128,33 @@ fn status_told(alloc: Global, entry: &LogEntry, hard: bool, old: &Status) -> Res
         state: entry.state,
         output: entry.output.as_str(),
     };
-    outcome.status_after(alloc, old)
+    let texts = StatusTexts {
+        plugin_output: entry.output.clone()?,
+        perf_data: Text::empty(),
+    };
+    Ok(outcome.status_with(old, texts))
+}
+
+/// Parts the outputs of statuses.
+fn part_all(alloc: Global, statuses: &mut [Status]) -> Result<(), Memory>
+    ensures { OnOk result (statuses.new ≡ map parted statuses.old) }
+{
+    for status in statuses.iter_mut() {
+        part(alloc, status)?;
+    }
+    Ok(())
+}
+
+/// Parts the output of a status.
+fn part(alloc: Global, status: &mut Status) -> Result<(), Memory>
+    ensures { OnOk result (status.new ≡ parted status.old) }
+{
+    let whole = status.plugin_output.as_str();
+    let plugin_output = Text::new(alloc, before_bar(whole))?;
+    let perf_data = Text::new(alloc, after_bar(whole))?;
+    status.plugin_output = plugin_output;
+    status.perf_data = perf_data;
+    Ok(())
 }
 
 /// The status of an object that was never checked.

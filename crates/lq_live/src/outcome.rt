@@ -14,6 +14,13 @@ pub(crate) struct CheckAttempt {
     pub(crate) number: u32,
 }
 
+/// The texts of a status.
+#[derive(Drop)]
+pub(crate) struct StatusTexts {
+    pub(crate) plugin_output: Text,
+    pub(crate) perf_data: Text,
+}
+
 /// What is recorded of a check result.
 #[derive(Clone, Copy)]
 pub(crate) struct Outcome<'a> {
@@ -32,6 +39,21 @@ impl Outcome<'_> {
         ensures { IfOk result (λ status. status ≡ status_after self.entry.second
             (attempt_of self.entry.attempt) self.entry.state self.entry.output.now old.now) }
     {
+        let texts = StatusTexts {
+            plugin_output: Text::new(alloc, before_bar(self.output))?,
+            perf_data: Text::new(alloc, after_bar(self.output))?,
+        };
+        Ok(self.status_with(old, texts))
+    }
+
+    /// The same status with other texts.
+    pub(crate) fn status_with(self, old: &Status, texts: StatusTexts) -> Status
+        ensures { result ≡ record (status_after self.entry.second
+            (attempt_of self.entry.attempt) self.entry.state self.entry.output.now old.now) {
+              plugin_output = texts.plugin_output;
+              perf_data = texts.perf_data;
+            } }
+    {
         let ok = is_ok(self.state);
         let ends = ends_acknowledgement(self.state, old);
         let changed = changes_state(self.state, old);
@@ -49,18 +71,12 @@ impl Outcome<'_> {
             acknowledged: flag_if(ends, 0, old.acknowledged),
             acknowledgement_type: flag_if(ends, 0, old.acknowledgement_type),
         };
-        let status = self.status_with(alloc, old, numbers)?;
-        Ok(status)
+        self.status_of(old, numbers, texts)
     }
 
-    /// The status of a checked object, by its numbers.
-    fn status_with(
-        self,
-        alloc: Global,
-        old: &Status,
-        numbers: StatusNumbers,
-    ) -> Result<Status, Memory>
-        ensures { IfOk result (λ status. status ≡ record {
+    /// The status of a checked object, by its numbers and its texts.
+    fn status_of(self, old: &Status, numbers: StatusNumbers, texts: StatusTexts) -> Status
+        ensures { result ≡ record {
           state = self.entry.state;
           state_type = numbers.state_type;
           has_been_checked = 1;
@@ -70,21 +86,19 @@ impl Outcome<'_> {
           last_hard_state_change = numbers.last_hard_state_change;
           last_hard_state =
               if self.entry.attempt.hard then self.entry.state else old.now.last_hard_state;
-          plugin_output = before_first is_bar self.entry.output.now;
-          perf_data = after_first is_bar self.entry.output.now;
+          plugin_output = texts.plugin_output;
+          perf_data = texts.perf_data;
           acknowledged = numbers.acknowledged;
           acknowledgement_type = numbers.acknowledgement_type;
           notifications_enabled = old.now.notifications_enabled;
-        }) }
+        } }
     {
-        let plugin_output = Text::new(alloc, before_bar(self.output))?;
-        let perf_data = Text::new(alloc, after_bar(self.output))?;
         let last_hard_state = if self.attempt.hard {
             self.state
         } else {
             old.last_hard_state
         };
-        Ok(Status {
+        Status {
             state: self.state,
             state_type: numbers.state_type,
             has_been_checked: 1,
@@ -93,12 +107,12 @@ impl Outcome<'_> {
             last_state_change: numbers.last_state_change,
             last_hard_state_change: numbers.last_hard_state_change,
             last_hard_state,
-            plugin_output,
-            perf_data,
+            plugin_output: texts.plugin_output,
+            perf_data: texts.perf_data,
             acknowledged: numbers.acknowledged,
             acknowledgement_type: numbers.acknowledgement_type,
             notifications_enabled: old.notifications_enabled,
-        })
+        }
     }
 }
 
@@ -125,7 +139,7 @@ pub(crate) fn before_bar(output: &str) -> &str
 }
 
 /// What stands after the first `|`.
-fn after_bar(output: &str) -> &str
+pub(crate) fn after_bar(output: &str) -> &str
     ensures { result.now ≡ after_first is_bar output.now }
 {
     match output.split_once('|') {

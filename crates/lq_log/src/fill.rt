@@ -4,6 +4,7 @@ ghost use Rattle.lq_events.specs.declared.log_entry.Kind.TheVariants.{Timeperiod
 ghost use Rattle.lq_log.specs.Fields.{where_holds, with_field, with_fields, with_from, with_state, with_to};
 
 use crate::field::Field;
+use crate::texts::Texts;
 use crate::words::{
     attempt, code, host_state, integer, is_downtime_word, is_flapping_word, is_state_type,
     service_state,
@@ -16,7 +17,7 @@ use std::alloc::Global;
 /// whether all of them are there and have their forms. What the entry holds is left open where they
 /// don't. Entries are filled in place, since one has some 200 bytes.
 pub(crate) fn fill_all(
-    alloc: Global,
+    texts: &mut Texts,
     entry: &mut LogEntry,
     fields: &[Field],
     text: &str,
@@ -28,39 +29,39 @@ pub(crate) fn fill_all(
         return Ok(true);
     };
     if later.is_empty() {
-        return fill(alloc, entry, *field, text);
+        return fill(texts, entry, *field, text);
     }
     let Some((front, rest)) = text.split_once(';') else {
         return Ok(false);
     };
-    if !fill(alloc, entry, *field, front)? {
+    if !fill(texts, entry, *field, front)? {
         return Ok(false);
     }
-    fill_all(alloc, entry, later, rest)
+    fill_all(texts, entry, later, rest)
 }
 
 /// Fills an entry with a field, and says whether the field has its form.
-fn fill(alloc: Global, entry: &mut LogEntry, field: Field, text: &str) -> Result<bool, Memory>
+fn fill(texts: &mut Texts, entry: &mut LogEntry, field: Field, text: &str) -> Result<bool, Memory>
     ensures { IfOk result
         (λ fits. where_holds fits entry.new ≡ with_field entry.old field text.now) }
 {
     match field {
-        Field::HostName => set(alloc, &mut entry.host, text),
-        Field::ServiceDescription => set(alloc, &mut entry.service, text),
+        Field::HostName => share(texts, &mut entry.host, text),
+        Field::ServiceDescription => share(texts, &mut entry.service, text),
         Field::HostState => Ok(fill_state(entry, host_state(text))),
         Field::ServiceState => Ok(fill_state(entry, service_state(text))),
-        Field::StateType => fill_word(alloc, entry, is_state_type(text), text),
+        Field::StateType => fill_word(texts, entry, is_state_type(text), text),
         Field::Attempt => Ok(fill_attempt(entry, attempt(text))),
         Field::Code => Ok(fill_state(entry, code(text))),
-        Field::DowntimeWord => fill_word(alloc, entry, is_downtime_word(text), text),
-        Field::FlappingWord => fill_word(alloc, entry, is_flapping_word(text), text),
-        Field::HostWord => fill_notice(alloc, entry, host_state(text), text),
-        Field::ServiceWord => fill_notice(alloc, entry, service_state(text), text),
-        Field::PluginOutput => set(alloc, &mut entry.output, text),
-        Field::Comment => set(alloc, &mut entry.comment, text),
-        Field::ContactName => set(alloc, &mut entry.contact, text),
-        Field::CommandName => set(alloc, &mut entry.command, text),
-        Field::PeriodName => fill_period(alloc, entry, text),
+        Field::DowntimeWord => fill_word(texts, entry, is_downtime_word(text), text),
+        Field::FlappingWord => fill_word(texts, entry, is_flapping_word(text), text),
+        Field::HostWord => fill_notice(texts, entry, host_state(text), text),
+        Field::ServiceWord => fill_notice(texts, entry, service_state(text), text),
+        Field::PluginOutput => set(texts.alloc(), &mut entry.output, text),
+        Field::Comment => set(texts.alloc(), &mut entry.comment, text),
+        Field::ContactName => share(texts, &mut entry.contact, text),
+        Field::CommandName => share(texts, &mut entry.command, text),
+        Field::PeriodName => fill_period(texts, entry, text),
         Field::From => Ok(fill_from(entry, integer(text))),
         Field::To => Ok(fill_to(entry, integer(text))),
     }
@@ -72,6 +73,15 @@ fn set(alloc: Global, place: &mut Text, text: &str) -> Result<bool, Memory>
     ensures set { OnOk result (place.new ≡ text.now) }
 {
     *place = Text::new(alloc, text)?;
+    Ok(true)
+}
+
+/// Sets a field that many lines have alike.
+fn share(texts: &mut Texts, place: &mut Text, text: &str) -> Result<bool, Memory>
+    ensures fits { IfOk result (λ fits. fits ≡ true) }
+    ensures set { OnOk result (place.new ≡ text.now) }
+{
+    *place = texts.shared(text)?;
     Ok(true)
 }
 
@@ -103,19 +113,24 @@ fn fill_attempt(entry: &mut LogEntry, attempt: Option<u32>) -> bool
 }
 
 /// Fills in a word, where it is one of its field.
-fn fill_word(alloc: Global, entry: &mut LogEntry, fits: bool, text: &str) -> Result<bool, Memory>
+fn fill_word(
+    texts: &mut Texts,
+    entry: &mut LogEntry,
+    fits: bool,
+    text: &str,
+) -> Result<bool, Memory>
     ensures { IfOk result (λ filled. where_holds filled entry.new
         ≡ where_holds fits (record entry.old { word = text.now })) }
 {
     if !fits {
         return Ok(false);
     }
-    set(alloc, &mut entry.word, text)
+    share(texts, &mut entry.word, text)
 }
 
 /// Fills in the word of a notification, and the state that it names, where it names one.
 fn fill_notice(
-    alloc: Global,
+    texts: &mut Texts,
     entry: &mut LogEntry,
     state: Option<i64>,
     text: &str,
@@ -124,16 +139,16 @@ fn fill_notice(
         ≡ Some (record entry.old { word = text.now; state = unwrap_or state (pos 0) })) }
 {
     entry.state = state.unwrap_or(0);
-    set(alloc, &mut entry.word, text)
+    share(texts, &mut entry.word, text)
 }
 
 /// Fills in the name of the period that goes over.
-fn fill_period(alloc: Global, entry: &mut LogEntry, text: &str) -> Result<bool, Memory>
+fn fill_period(texts: &mut Texts, entry: &mut LogEntry, text: &str) -> Result<bool, Memory>
     ensures { IfOk result (λ fits. where_holds fits entry.new
         ≡ Some (record entry.old { kind = TimeperiodTransition text.now (pos 0) (pos 0) })) }
 {
     entry.kind = Kind::TimeperiodTransition {
-        name: Text::new(alloc, text)?,
+        name: texts.shared(text)?,
         from: 0,
         to: 0,
     };

@@ -10,6 +10,7 @@ mod form;
 mod read;
 mod split;
 mod telling;
+mod texts;
 mod types;
 mod whole;
 mod words;

@@ -8,6 +8,7 @@ use crate::class;
 use crate::fill::fill_all;
 use crate::form::LineForm;
 use crate::split::{parted, second_and_text};
+use crate::texts::Texts;
 use lq_events::{Kind, LogEntry};
 use lq_records::{Memory, Text};
 use std::alloc::Global;
@@ -23,11 +24,19 @@ pub fn read_line(alloc: Global, line: &str, before: u64) -> Result<Option<LogEnt
     ensures below { before < time_limit
         → IfOk result (λ read. IfSome read (λ entry. entry.time < time_limit)) }
 {
-    entry_of(alloc, Text::new(alloc, line)?, before)
+    entry_of(
+        &mut Texts::of_a_line(alloc),
+        Text::new(alloc, line)?,
+        before,
+    )
 }
 
 /// The entry of a line, which becomes its message.
-pub(crate) fn entry_of(alloc: Global, line: Text, before: u64) -> Result<Option<LogEntry>, Memory>
+pub(crate) fn entry_of(
+    texts: &mut Texts,
+    line: Text,
+    before: u64,
+) -> Result<Option<LogEntry>, Memory>
     ensures read { IfOk result (λ entry. entry ≡ entry_of line before) }
     ensures line { IfOk result (λ read. IfSome read IsOfLine) }
     ensures order { IfOk result (λ read. IfSome read (λ entry. before ≤ entry.time)) }
@@ -37,24 +46,24 @@ pub(crate) fn entry_of(alloc: Global, line: Text, before: u64) -> Result<Option<
     let Some((second, text)) = second_and_text(line.as_str()) else {
         return Ok(None);
     };
-    let mut entry = said(alloc, text)?;
+    let mut entry = said(texts, text)?;
     entry.time = second.max(before);
     entry.message = line;
     Ok(Some(entry))
 }
 
 /// What a text says.
-pub(crate) fn said(alloc: Global, text: &str) -> Result<LogEntry, Memory>
+pub(crate) fn said(texts: &mut Texts, text: &str) -> Result<LogEntry, Memory>
     ensures { IfOk result (λ entry. entry ≡ said text.now) }
 {
-    match with_form(alloc, text)? {
+    match with_form(texts, text)? {
         Some(entry) => Ok(entry),
         None => Ok(other(text)),
     }
 }
 
 /// What a text says that has the name and the fields of a form.
-fn with_form(alloc: Global, text: &str) -> Result<Option<LogEntry>, Memory>
+fn with_form(texts: &mut Texts, text: &str) -> Result<Option<LogEntry>, Memory>
     ensures { IfOk result (λ entry. entry ≡ option_and_then formed (parted text.now)) }
 {
     let Some((name, rest)) = parted(text) else {
@@ -65,7 +74,7 @@ fn with_form(alloc: Global, text: &str) -> Result<Option<LogEntry>, Memory>
     };
     let fields = form.fields();
     let mut entry = form.into_blank();
-    if fill_all(alloc, &mut entry, fields, rest)? {
+    if fill_all(texts, &mut entry, fields, rest)? {
         Ok(Some(entry))
     } else {
         Ok(None)

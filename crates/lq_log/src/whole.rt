@@ -1,4 +1,4 @@
-ghost use Rattle.std.specs.Prelude.{◌≡◌, ◌++◌, ◌∷◌, [], ◌+◌, ◌-◌, ◌^◌, ◌<◌, None, IfErr, OnOk};
+ghost use Rattle.std.specs.Prelude.{◌≡◌, ◌++◌, ◌∷◌, [], ◌+◌, ◌-◌, ◌^◌, ◌<◌, None, IfErr, IfOk, OnOk};
 ghost use Rattle.std.specs.Option.{option_to_list};
 ghost use Rattle.lq_records.specs.Clean.{cleaned};
 ghost use Rattle.lq_log.specs.Book.{last_time};
@@ -7,6 +7,7 @@ ghost use Rattle.lq_log.specs.Log.{Reads, Tells, line_fault, log_of, skipped_in,
 
 use crate::book::LogBook;
 use crate::read::entry_of;
+use crate::texts::Texts;
 use lq_records::{Memory, clean_text};
 use lq_text::next_line;
 use std::alloc::{AllocError, Global};
@@ -17,6 +18,9 @@ const MOST_LINES: u64 = 200_000;
 
 /// The most bytes of a line, without its line feed and a carriage return before that.
 const LONGEST_LINE: usize = 8192;
+
+/// The bytes of a line that is shorter than most.
+const SHORT_LINE: usize = 64;
 
 /// Why the bytes of a log give no book.
 #[derive(Debug, Drop, Error)]
@@ -33,28 +37,46 @@ pub enum LogErr {
 }
 
 impl LogBook {
-    /// The book of a log, as Nagios Core writes it: an entry for each line that begins with a second
-    /// in brackets, no earlier than the one before. A carriage return before a line feed isn't part
-    /// of its line. Bytes that aren't UTF-8 become U+FFFD.
+    /// The book of a log, as Nagios Core writes it: an entry for each line that begins with a
+    /// second in brackets, no earlier than the one before. A carriage return before a line feed
+    /// isn't part of its line. Bytes that aren't UTF-8 become U+FFFD.
     ///
-    /// `TooManyLines` and `LineTooLong` come exactly where a line passes a limit, with the first one
-    /// that does; where it passes both, it is one too many. Any other error is out of memory.
+    /// `TooManyLines` and `LineTooLong` come exactly where a line passes a limit, with the first
+    /// one that does; where it passes both, it is one too many. Any other error is out of memory.
     pub fn read(alloc: Global, b: &[u8]) -> Result<Self, LogErr>
         ensures { Reads result (log_of b.now) }
     {
-        let mut book = LogBook::empty(alloc);
+        let mut book = match LogBook::with_room(alloc, b.len()) {
+            Ok(book) => book,
+            Err(error) => return Err(LogErr::Memory(error)),
+        };
+        let mut texts = match Texts::new(alloc) {
+            Ok(texts) => texts,
+            Err(error) => return Err(LogErr::Memory(error)),
+        };
         let mut number = 0;
         let mut at = 0;
         'lines: while let Some((end, next)) = next_line(b, at) {
             number += 1;
-            book.add_line(alloc, number, &b[at..end])?;
+            book.add_line(&mut texts, number, &b[at..end])?;
             at = next;
         }
         Ok(book)
     }
 
+    /// An empty book with room for the entries of a log of so many bytes, as far as these can be
+    /// foreseen. A book that grows is copied; room that isn't used is never written to.
+    fn with_room(alloc: Global, bytes: usize) -> Result<Self, Memory>
+        ensures entries { IfOk result (λ book. book.entries ≡ []) }
+        ensures skipped { IfOk result (λ book. book.skipped ≡ 0) }
+    {
+        let mut book = LogBook::empty(alloc);
+        book.reserve((bytes / SHORT_LINE).min(MOST_LINES as usize))?;
+        Ok(book)
+    }
+
     /// Adds what a line says, by its number from 1.
-    fn add_line(&mut self, alloc: Global, number: u64, line: &[u8]) -> Result<(), LogErr>
+    fn add_line(&mut self, texts: &mut Texts, number: u64, line: &[u8]) -> Result<(), LogErr>
         requires { self.old.skipped < number }
         ensures fits { OnOk result (line_fault number line.now ≡ None) }
         ensures fault { IfErr result (λ error. Tells error (line_fault number line.now)) }
@@ -72,14 +94,14 @@ impl LogBook {
         if line.len() > LONGEST_LINE {
             return Err(LogErr::LineTooLong { line: number });
         }
-        match self.add_text(alloc, line) {
+        match self.add_text(texts, line) {
             Ok(()) => Ok(()),
             Err(error) => Err(LogErr::Memory(error)),
         }
     }
 
     /// Adds the entry of a line, or counts the line as one without an entry.
-    fn add_text(&mut self, alloc: Global, line: &[u8]) -> Result<(), Memory>
+    fn add_text(&mut self, texts: &mut Texts, line: &[u8]) -> Result<(), Memory>
         requires { self.old.skipped < 2 ^ 64 - 1 }
         ensures entries { OnOk result (self.new.entries ≡ self.old.entries
             ++ option_to_list (entry_of (cleaned line.now) (last_time self.old.entries))) }
@@ -89,8 +111,8 @@ impl LogBook {
         ensures skipped { OnOk result
             (self.new.skipped ≡ self.old.skipped + skipped_in (line.now ∷ [])) }
     {
-        let text = clean_text(alloc, line)?;
-        match entry_of(alloc, text, self.last_time())? {
+        let text = clean_text(texts.alloc(), line)?;
+        match entry_of(texts, text, self.last_time())? {
             Some(entry) => self.add(entry),
             None => {
                 self.skip();

@@ -5,6 +5,7 @@ ghost use Rattle.lq_log.specs.Book.{time_limit};
 ghost use Rattle.lq_log.specs.Written.{alert_name, downtime_fields, downtime_name, form_text, host_downtime, next_field, object_text, service_downtime, stamped, state_word, type_word, written};
 
 use crate::read::said;
+use crate::texts::Texts;
 use crate::words::{host_state_name, service_state_name};
 use lq_events::LogEntry;
 use lq_records::{Memory, Text};
@@ -63,7 +64,7 @@ pub fn make_line(alloc: Global, time: u64, form: &Form) -> Result<LogEntry, Memo
     ensures line { time < time_limit → IfOk result IsOfLine }
 {
     let text = form_text(alloc, form)?;
-    let mut entry = said(alloc, text.as_str())?;
+    let mut entry = said(&mut Texts::of_a_line(alloc), text.as_str())?;
     entry.time = time;
     entry.message = stamped(alloc, time, text.as_str())?;
     Ok(entry)
