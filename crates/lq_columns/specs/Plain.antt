@@ -19,19 +19,21 @@ IsPlain kind.List = ⊥
 IsPlain kind.Nums = ⊥
 IsPlain kind.Pairs = ⊥
 
-abbrev pub IsNumber : ColKind → Type 0
-IsNumber kind.Int = Unit {0}
-IsNumber kind.Str = ⊥
-IsNumber kind.List = ⊥
-IsNumber kind.Nums = ⊥
-IsNumber kind.Pairs = ⊥
+-- numbers
+abbrev pub HasNumbers : ColKind → Type 0
+HasNumbers kind.Int = Unit {0}
+HasNumbers kind.Str = ⊥
+HasNumbers kind.List = ⊥
+HasNumbers kind.Nums = ⊥
+HasNumbers kind.Pairs = ⊥
 
-abbrev pub IsText : ColKind → Type 0
-IsText kind.Int = ⊥
-IsText kind.Str = Unit {0}
-IsText kind.List = ⊥
-IsText kind.Nums = ⊥
-IsText kind.Pairs = ⊥
+-- single texts
+abbrev pub HasTexts : ColKind → Type 0
+HasTexts kind.Int = ⊥
+HasTexts kind.Str = Unit {0}
+HasTexts kind.List = ⊥
+HasTexts kind.Nums = ⊥
+HasTexts kind.Pairs = ⊥
 
 -- ---- columns that count nothing
 

@@ -2,7 +2,7 @@ ghost use Rattle.std.specs.Prelude.{◌≡◌};
 ghost use Rattle.std.specs.Option.{IfSome, IsSome};
 ghost use Rattle.lq_schema.specs.Value.{Number, Words, empty_value, shown};
 ghost use Rattle.lq_columns.specs.Cells.{flag};
-ghost use Rattle.lq_columns.specs.Plain.{IsNumber, IsText};
+ghost use Rattle.lq_columns.specs.Plain.{HasNumbers, HasTexts};
 
 use lq_records::Items;
 use lq_schema::{ColKind, Val};
@@ -33,7 +33,7 @@ pub fn empty_value(alloc: Global, kind: ColKind) -> Val<'static>
 #[inline(never)]
 pub fn empty_number(kind: ColKind) -> Option<i128>
     ensures value { IfSome result (λ number. empty_value kind ≡ Number number) }
-    ensures given { IsNumber kind → IsSome result }
+    ensures given { HasNumbers kind → IsSome result }
 {
     match kind {
         ColKind::Int => Some(0),
@@ -45,7 +45,7 @@ pub fn empty_number(kind: ColKind) -> Option<i128>
 #[inline(never)]
 pub fn empty_text(kind: ColKind) -> Option<&'static str>
     ensures value { IfSome result (λ text. empty_value kind ≡ Words text.now) }
-    ensures given { IsText kind → IsSome result }
+    ensures given { HasTexts kind → IsSome result }
 {
     match kind {
         ColKind::Str => Some(""),

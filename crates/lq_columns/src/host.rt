@@ -6,7 +6,7 @@ ghost use Rattle.lq_schema.specs.Kinds.{host_kind, own_kind};
 ghost use Rattle.lq_schema.specs.Value.{Number, Texts, Words, shown};
 ghost use Rattle.lq_columns.specs.Cells.{host_at, host_cell, host_record, host_value};
 ghost use Rattle.lq_columns.specs.Names.{IsContactNamed, contact_names_of, contacts_of, has_text};
-ghost use Rattle.lq_columns.specs.Plain.{IsHeldByHost, IsNumber, IsPlain, IsSearchedAtHost, IsText};
+ghost use Rattle.lq_columns.specs.Plain.{HasNumbers, HasTexts, IsHeldByHost, IsPlain, IsSearchedAtHost};
 
 use crate::contacts::lists_contact;
 use crate::counters::services_value;
@@ -54,7 +54,7 @@ impl<'a> HostRow<'a> {
     pub fn number(&self, column: HostColumn) -> Option<i128>
         ensures value { (s : State) (view : View) → IfSome result (λ number.
             host_cell s view (host_record self.now) column ≡ Number number) }
-        ensures given { IsNumber (host_kind column) → IsHeldByHost column → IsSome result }
+        ensures given { HasNumbers (host_kind column) → IsHeldByHost column → IsSome result }
     {
         match column {
             HostColumn::Object(column) => object_number(&self.host.fields, column),
@@ -68,7 +68,7 @@ impl<'a> HostRow<'a> {
     pub fn text(&self, column: HostColumn) -> Option<&'a str>
         ensures value { (s : State) (view : View) → IfSome result (λ text.
             host_cell s view (host_record self.now) column ≡ Words text.now) }
-        ensures given { IsText (host_kind column) → IsSome result }
+        ensures given { HasTexts (host_kind column) → IsSome result }
     {
         match column {
             HostColumn::Name => Some(self.host.host_name.as_str()),

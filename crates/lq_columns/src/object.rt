@@ -4,7 +4,7 @@ ghost use Rattle.lq_schema.specs.Kinds.{object_kind};
 ghost use Rattle.lq_schema.specs.Value.{Number, Texts, Words, shown};
 ghost use Rattle.lq_columns.specs.Cells.{object_cell};
 ghost use Rattle.lq_columns.specs.Names.{contact_names_of, contacts_of, has_text};
-ghost use Rattle.lq_columns.specs.Plain.{IsNumber, IsPlain, IsSearched, IsText};
+ghost use Rattle.lq_columns.specs.Plain.{HasNumbers, HasTexts, IsPlain, IsSearched};
 ghost use Rattle.lq_records.specs.declared.base.Base.{Base};
 ghost use Rattle.lq_records.specs.declared.object.Object.{Object};
 
@@ -20,7 +20,7 @@ use std::alloc::Global;
 pub(crate) fn object_number(fields: &ObjectFields, column: ObjectColumn) -> Option<i128>
     ensures value { (base : Base) (about : Object) → IfSome result (λ number.
         object_cell base about fields.now column ≡ Number number) }
-    ensures given { IsNumber (object_kind column) → IsSome result }
+    ensures given { HasNumbers (object_kind column) → IsSome result }
 {
     match column {
         ObjectColumn::MaxCheckAttempts => Some(i128::from(fields.max_check_attempts)),
@@ -33,7 +33,7 @@ pub(crate) fn object_number(fields: &ObjectFields, column: ObjectColumn) -> Opti
 pub(crate) fn object_text(fields: &ObjectFields, column: ObjectColumn) -> Option<&str>
     ensures value { (base : Base) (about : Object) → IfSome result (λ text.
         object_cell base about fields.now column ≡ Words text.now) }
-    ensures given { IsText (object_kind column) → IsSome result }
+    ensures given { HasTexts (object_kind column) → IsSome result }
 {
     Some(match column {
         ObjectColumn::DisplayName => fields.display_name.as_str(),

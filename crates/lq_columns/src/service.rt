@@ -5,7 +5,7 @@ ghost use Rattle.lq_schema.specs.Kinds.{service_kind, own_kind};
 ghost use Rattle.lq_schema.specs.Value.{Number, Texts, Words, shown};
 ghost use Rattle.lq_columns.specs.Cells.{service_at, service_cell, service_record, service_value};
 ghost use Rattle.lq_columns.specs.Names.{IsContactNamed, contact_names_of, contacts_of, has_text};
-ghost use Rattle.lq_columns.specs.Plain.{IsHeldByService, IsNumber, IsPlain, IsSearchedAtService, IsText};
+ghost use Rattle.lq_columns.specs.Plain.{HasNumbers, HasTexts, IsHeldByService, IsPlain, IsSearchedAtService};
 
 use crate::contacts::lists_contact;
 use crate::empty::empty_value;
@@ -50,7 +50,7 @@ impl<'a> ServiceRow<'a> {
     pub fn number(&self, column: ServiceColumn) -> Option<i128>
         ensures value { (s : State) → IfSome result (λ number.
             service_cell s (service_record self.now) column ≡ Number number) }
-        ensures given { IsNumber (service_kind column) → IsHeldByService column → IsSome result }
+        ensures given { HasNumbers (service_kind column) → IsHeldByService column → IsSome result }
     {
         match column {
             ServiceColumn::Description => None,
@@ -64,7 +64,7 @@ impl<'a> ServiceRow<'a> {
     pub fn text(&self, column: ServiceColumn) -> Option<&'a str>
         ensures value { (s : State) → IfSome result (λ text.
             service_cell s (service_record self.now) column ≡ Words text.now) }
-        ensures given { IsText (service_kind column) → IsSome result }
+        ensures given { HasTexts (service_kind column) → IsSome result }
     {
         match column {
             ServiceColumn::Description => Some(self.service.service_description.as_str()),

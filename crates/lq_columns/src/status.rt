@@ -6,7 +6,7 @@ ghost use Rattle.lq_schema.specs.Kinds.{status_kind};
 ghost use Rattle.lq_schema.specs.Value.{Number, Numbers, Words, shown};
 ghost use Rattle.lq_log.specs.LastTold.{is_period_on};
 ghost use Rattle.lq_columns.specs.Cells.{comment_ids_of, downtime_ids_of, hard_state, period_of, status_cell};
-ghost use Rattle.lq_columns.specs.Plain.{IsHeldByStatus, IsNumber, IsPlain, IsText};
+ghost use Rattle.lq_columns.specs.Plain.{HasNumbers, HasTexts, IsHeldByStatus, IsPlain};
 
 use crate::empty::flag;
 use crate::entries::{comment_ids_of, depth_of, downtime_ids_of};
@@ -22,7 +22,7 @@ use std::alloc::Global;
 pub fn status_number(status: &Status, column: StatusColumn) -> Option<i128>
     ensures value { (s : State) (about : Object) → IfSome result (λ number.
         status_cell s about status.now column ≡ Number number) }
-    ensures given { IsNumber (status_kind column) → IsHeldByStatus column → IsSome result }
+    ensures given { HasNumbers (status_kind column) → IsHeldByStatus column → IsSome result }
 {
     Some(match column {
         StatusColumn::State => i128::from(status.state),
@@ -46,7 +46,7 @@ pub fn status_number(status: &Status, column: StatusColumn) -> Option<i128>
 pub(crate) fn status_text(status: &Status, column: StatusColumn) -> Option<&str>
     ensures value { (s : State) (about : Object) → IfSome result (λ text.
         status_cell s about status.now column ≡ Words text.now) }
-    ensures given { IsText (status_kind column) → IsSome result }
+    ensures given { HasTexts (status_kind column) → IsSome result }
 {
     match column {
         StatusColumn::PluginOutput => Some(status.plugin_output.as_str()),

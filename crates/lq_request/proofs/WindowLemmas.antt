@@ -31,7 +31,7 @@ use Rattle.lq_filter.specs.declared.header.Header.TheVariants as header
 use Rattle.lq_filter.specs.declared.read.Test.{Test}
 use Rattle.lq_request.specs.Filters.{AreWhole, IsFilter}
 use Rattle.lq_request.specs.Reading.{line_time}
-use Rattle.lq_request.specs.Window.{bounds_of, bounds_on, bounds_said, filter_bounds, filter_time, headers_of, history_interval, interval_of, is_tested, own_time, property_time, second_at, second_behind, tested, tests_rows, tightest}
+use Rattle.lq_request.specs.Window.{bounds_of, bounds_on, bounds_said, filter_bounds, filter_time, headers_of, history_interval, interval_of, is_tested, own_time, property_time, second_at, second_after, tested, tests_rows, tightest}
 use Rattle.lq_request.specs.declared.time.Interval.{Interval}
 use Rattle.lq_request.specs.declared.time.TimeBounds.{TimeBounds}
 use Rattle.lq_request.specs.declared.time.TimeTest.{TimeTest}
@@ -75,7 +75,7 @@ tightest_bounded From Until latest earliest all has = (
   picked min Until earliest (filter_map (λ bounds. bounds.until) all) (some_of Until (λ bounds. bounds.until) all (upper_parts From Until all has)),
 )
 
--- ---- each bound is a time, or the first second behind them all
+-- ---- each bound is a time, or the first second after them all
 
 abbrev AreTimes : TimeBounds → Type 0
 AreTimes bounds = Bounded (λ from. from ≤ 1000000000000) (λ until. until ≤ 1000000000000) bounds
@@ -84,17 +84,17 @@ second_at_within : (number : ℤ) → second_at number ≤ 1000000000000
 second_at_within (pos number) = omega arith
 second_at_within (negsuc number) = omega arith
 
-second_behind_within : (number : ℤ) → second_behind number ≤ 1000000000000
-second_behind_within (pos number) = omega arith
-second_behind_within (negsuc number) = omega arith
+second_after_within : (number : ℤ) → second_after number ≤ 1000000000000
+second_after_within (pos number) = omega arith
+second_after_within (negsuc number) = omega arith
 
 said_times : (negated : Bool) (ordering : Ordering) (number : ℤ) → AreTimes (bounds_said negated ordering number)
-said_times false Equal number = (second_at_within number, second_behind_within number)
+said_times false Equal number = (second_at_within number, second_after_within number)
 said_times true Equal number = (tt, tt)
 said_times false Less number = (tt, second_at_within number)
 said_times true Less number = (second_at_within number, tt)
-said_times false Greater number = (second_behind_within number, tt)
-said_times true Greater number = (tt, second_behind_within number)
+said_times false Greater number = (second_after_within number, tt)
+said_times true Greater number = (tt, second_after_within number)
 
 line_times : (t : Table) (bounds : TimeBounds) → AreTimes bounds → IfSome (bounds_on t (time.Line bounds)) AreTimes
 line_times table.Log bounds are = are

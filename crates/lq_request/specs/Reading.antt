@@ -31,7 +31,7 @@ HasCode error.Memory = Unit {0}
 abbrev pub ShowsCells : Request → Type 0
 ShowsCells request = 0 < length request.columns + length request.stats
 
--- the bounds of a request's window are times, or the first second behind them all
+-- the bounds of a request's window are times, or the first second after them all
 abbrev pub HasTimes : Request → Type 0
 HasTimes request = (request.from ≤ 1000000000000)
     × IfSome request.until (λ until. until ≤ 1000000000000)

@@ -34,10 +34,10 @@ abbrev pub second_at : ℤ → ℕ
 second_at (pos number) = min 1000000000000 number
 second_at (negsuc less) = 0
 
--- the second behind it, or the nearest one that may be a bound
-abbrev pub second_behind : ℤ → ℕ
-second_behind (pos number) = min 1000000000000 (number + 1)
-second_behind (negsuc less) = 0
+-- the second after it, or the nearest one that may be a bound
+abbrev pub second_after : ℤ → ℕ
+second_after (pos number) = min 1000000000000 (number + 1)
+second_after (negsuc less) = 0
 
 abbrev pub bounds : Option ℕ → Option ℕ → TimeBounds
 bounds from until = record { from = from; until = until }
@@ -45,12 +45,12 @@ bounds from until = record { from = from; until = until }
 -- What each comparison with a number says: in order `=`, `!=`, `<`, `>=`, `>` and `<=`. The upper
 -- bound is the first second that isn't allowed.
 abbrev pub bounds_said : Bool → Ordering → ℤ → TimeBounds
-bounds_said false Equal number = bounds (Some (second_at number)) (Some (second_behind number))
+bounds_said false Equal number = bounds (Some (second_at number)) (Some (second_after number))
 bounds_said true Equal number = bounds None None
 bounds_said false Less number = bounds None (Some (second_at number))
 bounds_said true Less number = bounds (Some (second_at number)) None
-bounds_said false Greater number = bounds (Some (second_behind number)) None
-bounds_said true Greater number = bounds None (Some (second_behind number))
+bounds_said false Greater number = bounds (Some (second_after number)) None
+bounds_said true Greater number = bounds None (Some (second_after number))
 
 -- the time of a line of the log, or of a slice of a history
 abbrev pub own_time : Prefix → OwnColumn → TimeBounds → Option TimeTest

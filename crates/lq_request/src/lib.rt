@@ -16,6 +16,7 @@ mod request;
 mod stats;
 mod style;
 mod time;
+mod trigger;
 mod words;
 
 pub use cut::{Cut, Cutting, MESSAGE_LIMIT};
@@ -23,3 +24,4 @@ pub use entry::StatEntry;
 pub use header::MOST_HEADERS;
 pub use request::{ReadErr, Request, read_request};
 pub use style::{Style, reply_style};
+pub use trigger::Trigger;

@@ -58,7 +58,7 @@ pub struct Request {
     /// `statehist` and `log` it is the latest that a `Filter` line on `time` says which no `And`,
     /// `Or` or `Negate` takes; 0 where none says it, and in other tables.
     pub from: u64,
-    /// The first second behind the window of time, in seconds since 1970, at most
+    /// The first second after the window of time, in seconds since 1970, at most
     /// 1,000,000,000,000. In `statehist` and `log` it is the earliest that such a line says. Where
     /// none says it, in `statehist` it is None, which stands for the present second, and else
     /// 1,000,000,000,000, as in other tables.

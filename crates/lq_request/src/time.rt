@@ -1,7 +1,7 @@
 ghost use Rattle.std.specs.Prelude.{◌≡◌};
 ghost use Rattle.lq_request.specs.Reading.{Finds};
 ghost use Rattle.lq_request.specs.Window.{bounds_on, bounds_said, interval_of, own_time, second_at};
-ghost use Rattle.lq_request.specs.Window.{second_behind, time_test, whole_interval};
+ghost use Rattle.lq_request.specs.Window.{second_after, time_test, whole_interval};
 
 use crate::fault::Fault;
 use crate::reason::Reason;
@@ -28,14 +28,14 @@ impl TimeBounds {
         ensures { result ≡ bounds_said negated ordering number }
     {
         let at = Some(second_at(number));
-        let behind = Some(second_behind(number));
+        let after = Some(second_after(number));
         let (from, until) = match (ordering, negated) {
-            (Ordering::Equal, false) => (at, behind),
+            (Ordering::Equal, false) => (at, after),
             (Ordering::Equal, true) => (None, None),
             (Ordering::Less, false) => (None, at),
             (Ordering::Less, true) => (at, None),
-            (Ordering::Greater, false) => (behind, None),
-            (Ordering::Greater, true) => (None, behind),
+            (Ordering::Greater, false) => (after, None),
+            (Ordering::Greater, true) => (None, after),
         };
         TimeBounds { from, until }
     }
@@ -93,7 +93,7 @@ fn own_time(column: Col, bounds: TimeBounds) -> Option<TimeTest>
 pub struct Interval {
     /// Its first second.
     pub from: u64,
-    /// The first second behind it. None stands for the present second.
+    /// The first second after it. None stands for the present second.
     pub until: Option<u64>,
 }
 
@@ -140,9 +140,9 @@ fn second_at(number: i64) -> u64
     }
 }
 
-/// The second behind the one that a number says, or the nearest one that may be a bound.
-fn second_behind(number: i64) -> u64
-    ensures { result ≡ second_behind number }
+/// The second after the one that a number says, or the nearest one that may be a bound.
+fn second_after(number: i64) -> u64
+    ensures { result ≡ second_after number }
 {
     if number < 0 {
         0

@@ -2,7 +2,7 @@ ghost use Rattle.std.specs.Prelude.{◌≡◌, ℕ, IfOk, IsOk, List};
 ghost use Rattle.std.specs.Option.{IfSome, IsSome};
 ghost use Rattle.lq_auth.specs.declared.view.View.{View};
 ghost use Rattle.lq_columns.specs.Names.{IsContactNamed, has_text};
-ghost use Rattle.lq_columns.specs.Plain.{IsHeldByHost, IsHeldByService, IsHeldByStatus, IsNumber, IsText};
+ghost use Rattle.lq_columns.specs.Plain.{HasNumbers, HasTexts, IsHeldByHost, IsHeldByService, IsHeldByStatus};
 ghost use Rattle.lq_live.specs.State.{State};
 ghost use Rattle.lq_schema.specs.Kinds.{host_kind, own_kind, service_kind, status_kind};
 ghost use Rattle.lq_schema.specs.Value.{Number, Texts, Words, empty_value, shown};
@@ -112,7 +112,7 @@ impl<'a, 'r> RowCells<'a, 'r> {
     pub fn number(&self, c: Col) -> Option<i128>
         ensures value { (view : View) → IfSome result (λ number.
             cell_of self.now.state view self.now.row c ≡ Number number) }
-        ensures given { IsNumber (own_kind c.own) → IsHeld c.own → IsSome result }
+        ensures given { HasNumbers (own_kind c.own) → IsHeld c.own → IsSome result }
     {
         match c.own {
             OwnColumn::Host(column) => match self.host {
@@ -143,7 +143,7 @@ impl<'a, 'r> RowCells<'a, 'r> {
     pub fn text(&self, c: Col) -> Option<&'a str>
         ensures value { (view : View) → IfSome result (λ text.
             cell_of self.now.state view self.now.row c ≡ Words text.now) }
-        ensures given { IsText (own_kind c.own) → IsLight c.own → IsSome result }
+        ensures given { HasTexts (own_kind c.own) → IsLight c.own → IsSome result }
     {
         let (live, row) = (self.live, self.row);
         let base = live.base();
@@ -227,7 +227,7 @@ impl<'a, 'r> RowCells<'a, 'r> {
 pub fn row_number(live: &Live, row: &Row, c: Col) -> Option<i128>
     ensures value { (view : View) → IfSome result (λ number.
         cell_of live.now.state view row.now c ≡ Number number) }
-    ensures given { IsNumber (own_kind c.own) → IsHeld c.own → IsSome result }
+    ensures given { HasNumbers (own_kind c.own) → IsHeld c.own → IsSome result }
 {
     match c.own {
         OwnColumn::Host(column) => match host_of(live, row_object(live, row)) {
@@ -254,7 +254,7 @@ pub fn row_number(live: &Live, row: &Row, c: Col) -> Option<i128>
 pub fn host_number(live: &Live, row: &Row, column: HostColumn) -> Option<i128>
     ensures value { (view : View) → IfSome result (λ number.
         own_cell live.now.state view row.now (own.Host column) ≡ Number number) }
-    ensures given { IsHost live.now.state row.now → IsNumber (host_kind column)
+    ensures given { IsHost live.now.state row.now → HasNumbers (host_kind column)
         → IsHeldByHost column → IsSome result }
 {
     match row {
@@ -269,7 +269,7 @@ pub fn host_number(live: &Live, row: &Row, column: HostColumn) -> Option<i128>
 pub fn service_number(live: &Live, row: &Row, column: ServiceColumn) -> Option<i128>
     ensures value { (view : View) → IfSome result (λ number.
         own_cell live.now.state view row.now (own.Service column) ≡ Number number) }
-    ensures given { IsService live.now.state row.now → IsNumber (service_kind column)
+    ensures given { IsService live.now.state row.now → HasNumbers (service_kind column)
         → IsHeldByService column → IsSome result }
 {
     match row {
@@ -286,7 +286,7 @@ pub fn host_status_number(statuses: &[Status], row: &Row, column: StatusColumn) 
         → IfSome result (λ number.
         own_cell s view row.now (own.Host (host_column.Status column)) ≡ Number number) }
     ensures given { (s : State) → AreOfHosts s statuses.now → IsHost s row.now
-        → IsNumber (status_kind column) → IsHeldByStatus column → IsSome result }
+        → HasNumbers (status_kind column) → IsHeldByStatus column → IsSome result }
 {
     match row {
         Row::Host(id) => status_number(statuses.get(id.0 as usize)?, column),
@@ -302,7 +302,7 @@ pub fn service_status_number(statuses: &[Status], row: &Row, column: StatusColum
         → IfSome result (λ number.
         own_cell s view row.now (own.Service (service_column.Status column)) ≡ Number number) }
     ensures given { (s : State) → AreOfServices s statuses.now → IsService s row.now
-        → IsNumber (status_kind column) → IsHeldByStatus column → IsSome result }
+        → HasNumbers (status_kind column) → IsHeldByStatus column → IsSome result }
 {
     match row {
         Row::Service(id) => status_number(statuses.get(id.0 as usize)?, column),
@@ -316,7 +316,7 @@ pub fn service_status_number(statuses: &[Status], row: &Row, column: StatusColum
 pub fn host_text<'a>(live: &'a Live, row: &Row, column: HostColumn) -> Option<&'a str>
     ensures value { (view : View) → IfSome result (λ text.
         own_cell live.now.state view row.now (own.Host column) ≡ Words text.now) }
-    ensures given { IsHost live.now.state row.now → IsText (host_kind column) → IsSome result }
+    ensures given { IsHost live.now.state row.now → HasTexts (host_kind column) → IsSome result }
 {
     match row {
         Row::Host(id) => HostRow::at(live, *id)?.text(column),
@@ -330,7 +330,7 @@ pub fn host_text<'a>(live: &'a Live, row: &Row, column: HostColumn) -> Option<&'
 pub fn service_text<'a>(live: &'a Live, row: &Row, column: ServiceColumn) -> Option<&'a str>
     ensures value { (view : View) → IfSome result (λ text.
         own_cell live.now.state view row.now (own.Service column) ≡ Words text.now) }
-    ensures given { IsService live.now.state row.now → IsText (service_kind column)
+    ensures given { IsService live.now.state row.now → HasTexts (service_kind column)
         → IsSome result }
 {
     match row {
@@ -344,7 +344,7 @@ pub fn service_text<'a>(live: &'a Live, row: &Row, column: ServiceColumn) -> Opt
 pub fn row_text<'a>(live: &'a Live, row: &Row, c: Col, view: &'a View) -> Option<&'a str>
     ensures value { IfSome result (λ text.
         cell_of live.now.state view.now row.now c ≡ Words text.now) }
-    ensures given { IsText (own_kind c.own) → IsLight c.own → IsSome result }
+    ensures given { HasTexts (own_kind c.own) → IsLight c.own → IsSome result }
 {
     match c.own {
         OwnColumn::Host(column) => match host_of(live, row_object(live, row)) {

@@ -2,7 +2,7 @@ ghost use Rattle.std.specs.Prelude.{◌≡◌, IfOk, IsOk};
 ghost use Rattle.std.specs.List.{slice_get};
 ghost use Rattle.std.specs.Option.{IfSome, IsSome, option_copied};
 ghost use Rattle.lq_auth.specs.declared.view.View.{View};
-ghost use Rattle.lq_columns.specs.Plain.{IsPlain, IsText};
+ghost use Rattle.lq_columns.specs.Plain.{HasTexts, IsPlain};
 ghost use Rattle.lq_records.specs.declared.base.Base.{Base};
 ghost use Rattle.lq_schema.specs.Kinds.{contact_group_kind, host_group_kind, service_group_kind};
 ghost use Rattle.lq_schema.specs.Value.{Words, shown};
@@ -25,7 +25,7 @@ pub(crate) fn contact_group_text(
 ) -> Option<&str>
     ensures value { (base : Base) → IfSome result (λ text.
         contact_group_cell base (option_copied group.entry) column ≡ Words text.now) }
-    ensures given { IsText (contact_group_kind column) → IsSome result }
+    ensures given { HasTexts (contact_group_kind column) → IsSome result }
 {
     let Some(group) = group else {
         return empty_text(OwnColumn::ContactGroup(column).kind());
@@ -71,7 +71,7 @@ pub(crate) fn host_group_text(
 ) -> Option<&str>
     ensures value { (view : View) → IfSome result (λ text.
         host_group_part live.now.state view id column ≡ Words text.now) }
-    ensures given { IsText (host_group_kind column) → IsSome result }
+    ensures given { HasTexts (host_group_kind column) → IsSome result }
 {
     let Some(id) = id else {
         return empty_text(OwnColumn::HostGroup(column).kind());
@@ -89,8 +89,8 @@ pub(crate) fn host_group_text(
     }
 }
 
-/// The value of a column on a group of hosts. Its members and its counters are of those that a query
-/// sees. Its members take memory, which is the only error.
+/// The value of a column on a group of hosts. Its members and its counters are of those that a
+/// query sees. Its members take memory, which is the only error.
 pub(crate) fn host_group_value<'a>(
     alloc: Global,
     live: &'a Live,
@@ -136,7 +136,7 @@ pub(crate) fn service_group_text(
 ) -> Option<&str>
     ensures value { (view : View) → IfSome result (λ text.
         service_group_part live.now.state view id column ≡ Words text.now) }
-    ensures given { IsText (service_group_kind column) → IsSome result }
+    ensures given { HasTexts (service_group_kind column) → IsSome result }
 {
     let Some(id) = id else {
         return empty_text(OwnColumn::ServiceGroup(column).kind());

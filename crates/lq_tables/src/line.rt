@@ -2,7 +2,7 @@
 
 ghost use Rattle.std.specs.Prelude.{◌≡◌};
 ghost use Rattle.std.specs.Option.{IfSome, IsSome, option_copied};
-ghost use Rattle.lq_columns.specs.Plain.{IsNumber, IsText};
+ghost use Rattle.lq_columns.specs.Plain.{HasNumbers, HasTexts};
 ghost use Rattle.lq_schema.specs.Kinds.{line_kind};
 ghost use Rattle.lq_schema.specs.Value.{Number, Words, shown};
 ghost use Rattle.lq_tables.specs.Parts.{line_cell};
@@ -17,7 +17,7 @@ use std::alloc::Global;
 pub(crate) fn line_number(line: Option<&LogEntry>, column: LineColumn) -> Option<i128>
     ensures value { IfSome result (λ number.
         line_cell (option_copied line.entry) column ≡ Number number) }
-    ensures given { IsNumber (line_kind column) → IsSome result }
+    ensures given { HasNumbers (line_kind column) → IsSome result }
 {
     let Some(line) = line else {
         return empty_number(OwnColumn::Line(column).kind());
@@ -35,7 +35,7 @@ pub(crate) fn line_number(line: Option<&LogEntry>, column: LineColumn) -> Option
 pub(crate) fn line_text(line: Option<&LogEntry>, column: LineColumn) -> Option<&str>
     ensures value { IfSome result (λ text.
         line_cell (option_copied line.entry) column ≡ Words text.now) }
-    ensures given { IsText (line_kind column) → IsSome result }
+    ensures given { HasTexts (line_kind column) → IsSome result }
 {
     let Some(line) = line else {
         return empty_text(OwnColumn::Line(column).kind());

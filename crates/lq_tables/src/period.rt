@@ -2,7 +2,7 @@
 
 ghost use Rattle.std.specs.Prelude.{◌≡◌};
 ghost use Rattle.std.specs.Option.{IfSome, IsSome, option_copied};
-ghost use Rattle.lq_columns.specs.Plain.{IsNumber, IsText};
+ghost use Rattle.lq_columns.specs.Plain.{HasNumbers, HasTexts};
 ghost use Rattle.lq_live.specs.State.{State};
 ghost use Rattle.lq_schema.specs.Kinds.{period_kind};
 ghost use Rattle.lq_schema.specs.Value.{Number, Words, shown};
@@ -22,7 +22,7 @@ pub(crate) fn period_number(
 ) -> Option<i128>
     ensures value { IfSome result (λ number.
         period_cell live.now.state (option_copied period.entry) column ≡ Number number) }
-    ensures given { IsNumber (period_kind column) → IsSome result }
+    ensures given { HasNumbers (period_kind column) → IsSome result }
 {
     let Some(period) = period else {
         return empty_number(OwnColumn::Period(column).kind());
@@ -37,7 +37,7 @@ pub(crate) fn period_number(
 pub(crate) fn period_text(period: Option<&Period>, column: PeriodColumn) -> Option<&str>
     ensures value { (s : State) → IfSome result (λ text.
         period_cell s (option_copied period.entry) column ≡ Words text.now) }
-    ensures given { IsText (period_kind column) → IsSome result }
+    ensures given { HasTexts (period_kind column) → IsSome result }
 {
     let Some(period) = period else {
         return empty_text(OwnColumn::Period(column).kind());

@@ -1,6 +1,6 @@
 ghost use Rattle.std.specs.Prelude.{◌≡◌, IfOk, IsOk};
 ghost use Rattle.std.specs.Option.{IfSome, IsSome};
-ghost use Rattle.lq_columns.specs.Plain.{IsNumber, IsText};
+ghost use Rattle.lq_columns.specs.Plain.{HasNumbers, HasTexts};
 ghost use Rattle.lq_live.specs.State.{State};
 ghost use Rattle.lq_schema.specs.Kinds.{own_kind, program_kind, schema_kind};
 ghost use Rattle.lq_schema.specs.Names.{full_name};
@@ -24,7 +24,7 @@ use std::alloc::Global;
 pub(crate) fn program_number(live: &Live, row: &Row, column: ProgramColumn) -> Option<i128>
     ensures value { IfSome result (λ number.
         program_part live.now.state row.now column ≡ Number number) }
-    ensures given { IsNumber (program_kind column) → IsSome result }
+    ensures given { HasNumbers (program_kind column) → IsSome result }
 {
     let Row::Status = row else {
         return empty_number(OwnColumn::Program(column).kind());
@@ -43,7 +43,7 @@ pub(crate) fn program_number(live: &Live, row: &Row, column: ProgramColumn) -> O
 pub(crate) fn program_text(row: &Row, column: ProgramColumn) -> Option<&'static str>
     ensures value { (s : State) → IfSome result (λ text.
         program_part s row.now column ≡ Words text.now) }
-    ensures given { IsText (program_kind column) → IsSome result }
+    ensures given { HasTexts (program_kind column) → IsSome result }
 {
     let Row::Status = row else {
         return empty_text(OwnColumn::Program(column).kind());

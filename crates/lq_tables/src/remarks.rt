@@ -2,7 +2,7 @@
 
 ghost use Rattle.std.specs.Prelude.{◌≡◌};
 ghost use Rattle.std.specs.Option.{IfSome, IsSome, option_copied};
-ghost use Rattle.lq_columns.specs.Plain.{IsNumber, IsText};
+ghost use Rattle.lq_columns.specs.Plain.{HasNumbers, HasTexts};
 ghost use Rattle.lq_schema.specs.Kinds.{comment_kind, downtime_kind};
 ghost use Rattle.lq_schema.specs.Value.{Number, Words, empty_value, shown};
 ghost use Rattle.lq_tables.specs.Parts.{comment_cell, downtime_cell};
@@ -19,7 +19,7 @@ use std::alloc::Global;
 pub(crate) fn downtime_number(downtime: Option<&Downtime>, column: DowntimeColumn) -> Option<i128>
     ensures value { IfSome result (λ number.
         downtime_cell (option_copied downtime.entry) column ≡ Number number) }
-    ensures given { IsNumber (downtime_kind column) → IsSome result }
+    ensures given { HasNumbers (downtime_kind column) → IsSome result }
 {
     let Some(downtime) = downtime else {
         return empty_number(OwnColumn::Downtime(column).kind());
@@ -41,7 +41,7 @@ pub(crate) fn downtime_number(downtime: Option<&Downtime>, column: DowntimeColum
 pub(crate) fn downtime_text(downtime: Option<&Downtime>, column: DowntimeColumn) -> Option<&str>
     ensures value { IfSome result (λ text.
         downtime_cell (option_copied downtime.entry) column ≡ Words text.now) }
-    ensures given { IsText (downtime_kind column) → IsSome result }
+    ensures given { HasTexts (downtime_kind column) → IsSome result }
 {
     let Some(downtime) = downtime else {
         return empty_text(OwnColumn::Downtime(column).kind());
@@ -83,7 +83,7 @@ pub(crate) fn downtime_value(
 pub(crate) fn comment_number(comment: Option<&Comment>, column: CommentColumn) -> Option<i128>
     ensures value { IfSome result (λ number.
         comment_cell (option_copied comment.entry) column ≡ Number number) }
-    ensures given { IsNumber (comment_kind column) → IsSome result }
+    ensures given { HasNumbers (comment_kind column) → IsSome result }
 {
     let Some(comment) = comment else {
         return empty_number(OwnColumn::Comment(column).kind());
@@ -102,7 +102,7 @@ pub(crate) fn comment_number(comment: Option<&Comment>, column: CommentColumn) -
 pub(crate) fn comment_text(comment: Option<&Comment>, column: CommentColumn) -> Option<&str>
     ensures value { IfSome result (λ text.
         comment_cell (option_copied comment.entry) column ≡ Words text.now) }
-    ensures given { IsText (comment_kind column) → IsSome result }
+    ensures given { HasTexts (comment_kind column) → IsSome result }
 {
     let Some(comment) = comment else {
         return empty_text(OwnColumn::Comment(column).kind());

@@ -2,7 +2,7 @@
 
 ghost use Rattle.std.specs.Prelude.{◌≡◌, Some};
 ghost use Rattle.std.specs.Option.{IfSome, IsSome, option_copied};
-ghost use Rattle.lq_columns.specs.Plain.{IsNumber, IsText};
+ghost use Rattle.lq_columns.specs.Plain.{HasNumbers, HasTexts};
 ghost use Rattle.lq_live.specs.State.{State};
 ghost use Rattle.lq_schema.specs.Kinds.{slice_kind};
 ghost use Rattle.lq_schema.specs.Value.{Number, Words, shown};
@@ -22,7 +22,7 @@ use std::alloc::Global;
 pub(crate) fn slice_number(row: Option<&HistoryRow>, column: SliceColumn) -> Option<i128>
     ensures value { (s : State) → IfSome result (λ number.
         slice_cell s (option_copied row.entry) column ≡ Number number) }
-    ensures given { IsNumber (slice_kind column) → IsSome result }
+    ensures given { HasNumbers (slice_kind column) → IsSome result }
 {
     let Some(row) = row else {
         return empty_number(OwnColumn::Slice(column).kind());
@@ -56,7 +56,7 @@ pub(crate) fn slice_text<'a>(
 ) -> Option<&'a str>
     ensures value { IfSome result (λ text.
         slice_cell live.now.state (option_copied row.entry) column ≡ Words text.now) }
-    ensures given { IsText (slice_kind column) → IsSome result }
+    ensures given { HasTexts (slice_kind column) → IsSome result }
 {
     let Some(row) = row else {
         return empty_text(OwnColumn::Slice(column).kind());

@@ -1,5 +1,5 @@
-//! The state that a log leaves: which of its lines say the state of an object, and which say nothing
-//! of a status.
+//! The state that a log leaves: which of its lines say the state of an object, and which say
+//! nothing of a status.
 
 use crate::fixture::{Site, assert_same};
 use std::process::Abort;

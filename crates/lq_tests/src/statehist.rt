@@ -135,7 +135,8 @@ Filter: host_name = web1
 Filter: service_description != disk
 Filter: time >= 100
 Filter: time < 140",
-        ";100;110;1;0;0\n;110;140;0;0;0\nhttp;100;120;0;0;0\nhttp;120;130;0;1;0\nhttp;130;140;0;0;0\n",
+        ";100;110;1;0;0\n;110;140;0;0;0
+http;100;120;0;0;0\nhttp;120;130;0;1;0\nhttp;130;140;0;0;0\n",
     ),
     // A downtime of a host is one of itself, and the host's of its services.
     (
@@ -167,7 +168,8 @@ http;90;100;-1;0;0;0\nhttp;100;120;-1;1;0;0\nhttp;120;130;-1;0;0;0\n",
 [110] TIMEPERIOD TRANSITION: always;0;1
 [115] TIMEPERIOD TRANSITION: ;1;0
 ",
-        "Columns: host_name service_description notification_period from until in_notification_period
+        "Columns: host_name service_description notification_period from until
+Columns: in_notification_period
 Filter: service_description !~ http
 Filter: time >= 90
 Filter: time < 120",
@@ -217,7 +219,8 @@ const RIGHTS: &[Case<'_>] = &[
         LOG,
         "AuthUser: anna\nColumns: host_name service_description from
 Filter: time >= 90\nFilter: time < 110",
-        "web1;;90\nweb1;;100\nweb1;http;90\nweb1;http;100\nweb1;disk;90\nweb1;disk;99\nweb1;disk;100\n",
+        "web1;;90\nweb1;;100\nweb1;http;90\nweb1;http;100
+web1;disk;90\nweb1;disk;99\nweb1;disk;100\n",
     ),
     (
         LOG,

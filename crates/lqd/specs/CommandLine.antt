@@ -168,7 +168,8 @@ given_by words = option_and_then given_of (line_of words)
 unfoldable pub asked_words : List (List ℕ) → Option Work
 asked_words [] = None
 asked_words (command ∷ words) =
-    if bytes_eq command (codes "ask") then option_map Ask (option_and_then wanted_of (given_by words))
+    if bytes_eq command (codes "ask")
+    then option_map Ask (option_and_then wanted_of (given_by words))
     else if bytes_eq command (codes "load")
     then option_map Load (option_and_then load_of (given_by words))
     else None

@@ -1,8 +1,8 @@
 //! lqd: a query server for the state of a monitoring core.
 //!
 //! `lqd ask OBJECTS` reads a Nagios object file, and serves the queries and external commands of
-//! its standard input. `lqd load N` does so with the objects, the log and the stream that the number
-//! generates, and tells of the replies in one line.
+//! its standard input. `lqd load N` does so with the objects, the log and the stream that the
+//! number generates, and tells of the replies in one line.
 #![tactic(auto)]
 
 mod command_line;

@@ -27,10 +27,10 @@ use std::alloc::Global;
 /// with `--log FILE` from the state that a log left, by the rules of rights that its options choose
 /// (`asked_words`). Each query is answered at the state that the commands before it left. The
 /// connection ends after a query without `KeepAlive: on`, after a message that is too long, after
-/// the 10,000th message, or with the input. `load N` serves the stream of a workload that the number
-/// generates over its objects, from the state that its log left, and writes one line, which tells
-/// how many bytes the replies have, and their sum modulo 2 ^ 32 (`load_line`). It reads neither a
-/// file nor the input. The answer is the status that the program ends with:
+/// the 10,000th message, or with the input. `load N` serves the stream of a workload that the
+/// number generates over its objects, from the state that its log left, and writes one line, which
+/// tells how many bytes the replies have, and their sum modulo 2 ^ 32 (`load_line`). It reads
+/// neither a file nor the input. The answer is the status that the program ends with:
 ///
 /// - 0: all messages up to the end of the connection were served. A command writes nothing; neither
 ///   does a refused query or a message that is too long without `ResponseHeader: fixed16`. The line
@@ -41,10 +41,10 @@ use std::alloc::Global;
 /// - 4: the object file or the log is missing or can't be read.
 /// - 5: the input can't be read.
 /// - 6: the output can't be written. A front of the replies, or of a load's line, was written.
-/// - 7: out of memory. Where it ran out for a query or a message that is too long of `ask`, the reply
-///   to it is the refusal `out of memory` with the code 500: 30 bytes with `ResponseHeader: fixed16`,
-///   or none without. Where the write of it fails, a front of it was written, and the status is 7
-///   too.
+/// - 7: out of memory. Where it ran out for a query or a message that is too long of `ask`, the
+///   reply to it is the refusal `out of memory` with the code 500: 30 bytes with `ResponseHeader:
+///   fixed16`, or none without. Where the write of it fails, a front of it was written, and the
+///   status is 7 too.
 ///
 /// A load ends with 0, 6 or 7, as its objects and its log are always accepted.
 ///

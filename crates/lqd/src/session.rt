@@ -59,9 +59,9 @@ impl From<AllocError> for ServeErr {
 /// Serves a connection: reads messages from the input, and writes the reply to each query before
 /// the next message is read. Each command takes its step of the state. The connection ends after a
 /// query that doesn't keep it, after a message that is too long, after the 10,000th message, or at
-/// the end of the input. The errors are `Read`, `Write` and out of memory. A query or a message that
-/// is too long for which memory runs out is refused with the code 500, in its style, before the
-/// connection ends with that error, also where the write of it fails.
+/// the end of the input. The errors are `Read`, `Write` and out of memory. A query or a message
+/// that is too long for which memory runs out is refused with the code 500, in its style, before
+/// the connection ends with that error, also where the write of it fails.
 pub fn serve<S: Source, K: Sink>(
     alloc: Global,
     live: Live,
