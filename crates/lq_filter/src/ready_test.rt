@@ -117,8 +117,8 @@ impl ReadyTest<'_> {
         Ok(())
     }
 
-    /// The same for a column of texts. The rows are tested one by one where the cells give no answer
-    /// for many at once.
+    /// The same for a column of texts. The rows are tested one by one where the cells give no
+    /// answer for many at once.
     fn keep_met_by_text<S: Scan>(
         &mut self,
         block: &Block<'_, S>,

@@ -11,6 +11,5 @@ pub mod Edits
 pub mod StepEdits
 pub mod Opening
 pub mod Whole
-pub mod NamedServices
 pub mod Order
 pub mod Depths

@@ -15,7 +15,6 @@ mod event;
 mod last_told;
 mod live;
 mod live_state;
-mod named_services;
 mod names;
 mod opening;
 mod outcome;

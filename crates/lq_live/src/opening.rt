@@ -3,17 +3,15 @@ ghost use Rattle.std.specs.Arc.{arc_value};
 ghost use Rattle.std.specs.Option.{option_copied};
 ghost use Rattle.lq_live.specs.Kept.{state_of};
 ghost use Rattle.lq_live.specs.LastTold.{AreTold};
-ghost use Rattle.lq_live.specs.NamedServices.{AreKnown};
 ghost use Rattle.lq_live.specs.Opening.{status_told, with_line, with_lines};
 ghost use Rattle.lq_live.specs.State.{all_pending, object_status, pending, with_status};
 ghost use Rattle.lq_live.specs.Whole.{all_parted, parted, whole_told};
 
 use crate::last_told::LastTold;
 use crate::live_state::{LiveState, set_status};
-use crate::named_services::NamedServices;
 use crate::outcome::{CheckAttempt, Outcome, StatusTexts, after_bar, before_bar};
 use lq_events::{LogEntry, Status};
-use lq_log::{LogBook, Told, told_by};
+use lq_log::{LogBook, Told, object_of, told_by};
 use lq_records::{Base, Host, Memory, Object, Service, Text};
 use std::alloc::Global;
 use std::sync::Arc;
@@ -51,10 +49,9 @@ impl LiveState {
             (state_of self.new ≡ with_lines log.now (all_parted (state_of self.old))) }
         ensures told { OnOk result (AreTold self.new.told (arc_value self.new.base) log.now) }
     {
-        let mut services = NamedServices::new(alloc, &self.base, log.len())?;
         let mut told = LastTold::new(alloc, &self.base)?;
         for entry in log {
-            self.record_line(&mut services, entry)?;
+            self.record_line(entry)?;
             told.add_line(&self.base, entry);
         }
         self.told = told;
@@ -63,9 +60,7 @@ impl LiveState {
     }
 
     /// Records a line, where it is a state or alert line about an object. Its output is kept whole.
-    fn record_line(&mut self, services: &mut NamedServices, entry: &LogEntry) -> Result<(), Memory>
-        requires { AreKnown (arc_value self.old.base) services.old }
-        ensures known { OnOk result (AreKnown (arc_value self.new.base) services.new) }
+    fn record_line(&mut self, entry: &LogEntry) -> Result<(), Memory>
         ensures state { OnOk result (all_parted (state_of self.new)
             ≡ with_line entry.now (all_parted (state_of self.old))) }
         ensures base { arc_value self.new.base ≡ arc_value self.old.base }
@@ -73,7 +68,7 @@ impl LiveState {
         let Some(Told::State { hard }) = told_by(entry) else {
             return Ok(());
         };
-        let Some(object) = services.find(&self.base, entry)? else {
+        let Some(object) = object_of(&self.base, entry) else {
             return Ok(());
         };
         self.record_state(object, hard, entry)
@@ -150,8 +145,8 @@ fn part(alloc: Global, status: &mut Status) -> Result<(), Memory>
     ensures { OnOk result (status.new ≡ parted status.old) }
 {
     let whole = status.plugin_output.as_str();
-    let plugin_output = Text::new(alloc, before_bar(whole))?;
-    let perf_data = Text::new(alloc, after_bar(whole))?;
+    let plugin_output = status.plugin_output.with_end(alloc, before_bar(whole))?;
+    let perf_data = status.plugin_output.with_end(alloc, after_bar(whole))?;
     status.plugin_output = plugin_output;
     status.perf_data = perf_data;
     Ok(())

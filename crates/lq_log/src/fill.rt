@@ -11,7 +11,6 @@ use crate::words::{
 };
 use lq_events::{Kind, LogEntry};
 use lq_records::{Memory, Text};
-use std::alloc::Global;
 
 /// Fills an entry with the fields of a text, each up to its `;`, the last one to the end, and says
 /// whether all of them are there and have their forms. What the entry holds is left open where they
@@ -57,8 +56,8 @@ fn fill(texts: &mut Texts, entry: &mut LogEntry, field: Field, text: &str) -> Re
         Field::FlappingWord => fill_word(texts, entry, is_flapping_word(text), text),
         Field::HostWord => fill_notice(texts, entry, host_state(text), text),
         Field::ServiceWord => fill_notice(texts, entry, service_state(text), text),
-        Field::PluginOutput => set(texts.alloc(), &mut entry.output, text),
-        Field::Comment => set(texts.alloc(), &mut entry.comment, text),
+        Field::PluginOutput => set(texts, &mut entry.output, text),
+        Field::Comment => set(texts, &mut entry.comment, text),
         Field::ContactName => share(texts, &mut entry.contact, text),
         Field::CommandName => share(texts, &mut entry.command, text),
         Field::PeriodName => fill_period(texts, entry, text),
@@ -67,12 +66,12 @@ fn fill(texts: &mut Texts, entry: &mut LogEntry, field: Field, text: &str) -> Re
     }
 }
 
-/// Sets a field that may be any text.
-fn set(alloc: Global, place: &mut Text, text: &str) -> Result<bool, Memory>
+/// Sets a field that may be any text, and in most lines is the end of the line.
+fn set(texts: &Texts, place: &mut Text, text: &str) -> Result<bool, Memory>
     ensures fits { IfOk result (λ fits. fits ≡ true) }
     ensures set { OnOk result (place.new ≡ text.now) }
 {
-    *place = Text::new(alloc, text)?;
+    *place = texts.of_line(text)?;
     Ok(true)
 }
 

@@ -46,6 +46,7 @@ pub(crate) fn entry_of(
     let Some((second, text)) = second_and_text(line.as_str()) else {
         return Ok(None);
     };
+    texts.begin(&line)?;
     let mut entry = said(texts, text)?;
     entry.time = second.max(before);
     entry.message = line;

@@ -64,9 +64,12 @@ pub fn make_line(alloc: Global, time: u64, form: &Form) -> Result<LogEntry, Memo
     ensures line { time < time_limit → IfOk result IsOfLine }
 {
     let text = form_text(alloc, form)?;
-    let mut entry = said(&mut Texts::of_a_line(alloc), text.as_str())?;
+    let message = stamped(alloc, time, text.as_str())?;
+    let mut texts = Texts::of_a_line(alloc);
+    texts.begin(&message)?;
+    let mut entry = said(&mut texts, text.as_str())?;
     entry.time = time;
-    entry.message = stamped(alloc, time, text.as_str())?;
+    entry.message = message;
     Ok(entry)
 }
 

@@ -58,31 +58,32 @@ fn texts_want_memory_for_their_bytes(rt: HostRuntime) -> Result<(), Fail> {
     assert_late(&rt, "clean_text", 24, &mut Made::Cleaned(&bytes))
 }
 
-/// A clone of a text is added to others.
+/// The end of a clone of a text is added to others.
 #[derive(Drop)]
-struct Cloned {
+struct Shared {
     text: Text,
-    clones: Vec<Text>,
+    ends: Vec<Text>,
 }
 
-impl Call for Cloned {
-    fn make(&mut self, _alloc: Global) -> Result<bool, AllocError> {
+impl Call for Shared {
+    fn make(&mut self, alloc: Global) -> Result<bool, AllocError> {
         let clone = self.text.clone()?;
-        self.clones.push(clone)?;
+        self.ends
+            .push(clone.with_end(alloc, "rack7.room12.example")?)?;
         Ok(true)
     }
 }
 
 #[test]
-fn a_clone_of_a_text_wants_no_memory(rt: HostRuntime) -> Result<(), Fail> {
-    let mut call = Cloned {
-        text: Text::new(rt.alloc(), "web1")?,
-        clones: Vec::with_capacity(rt.alloc(), 400)?,
+fn clones_and_ends_of_a_text_want_no_memory(rt: HostRuntime) -> Result<(), Fail> {
+    let mut call = Shared {
+        text: Text::new(rt.alloc(), "web1.rack7.room12.example")?,
+        ends: Vec::with_capacity(rt.alloc(), 400)?,
     };
     let count = successes(rt.alloc(), 0, &mut call)?;
-    assert!(rt; count == 400 && call.clones.len() == 400, "{count}");
-    assert!(rt; call.clones[399].as_str() == "web1");
-    assert!(rt; call.make(rt.alloc())? && call.clones.len() == 401);
+    assert!(rt; count == 400 && call.ends.len() == 400, "{count}");
+    assert!(rt; call.ends[399].as_str() == "rack7.room12.example");
+    assert!(rt; call.make(rt.alloc())? && call.ends.len() == 401);
     Ok(())
 }
 

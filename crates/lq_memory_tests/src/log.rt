@@ -69,7 +69,7 @@ fn assert_line<R: Abort + AllocGlobal>(rt: &R, line: &str, output: &str) -> Resu
 
 #[test]
 fn a_line_wants_memory_for_its_texts(rt: HostRuntime) -> Result<(), Fail> {
-    let output = "0123456789".repeat(rt.alloc(), 6_000)?;
+    let output = "0123456789".repeat(rt.alloc(), 12_000)?;
     let output = output.as_str();
     let line = format!(in rt.alloc(); "[5] HOST ALERT: web1;DOWN;HARD;3;{output}")?;
     assert_line(&rt, line.as_str(), output)

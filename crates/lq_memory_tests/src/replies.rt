@@ -101,7 +101,7 @@ fn are_names(names: &[Text], last: &str) -> bool {
 }
 
 fn are_names_in(value: Val<'_>, last: &str) -> bool {
-    match value {
+    match &value {
         Val::List(names) => are_names(names.as_slice(), last),
         _ => false,
     }

@@ -4,6 +4,7 @@ ghost use Rattle.lq_records.specs.Clean.{cleaned};
 use lq_records::{Text, clean_text};
 use std::alloc::{AllocError, Global};
 use std::cell::Cell;
+use std::hash::{FoldHasher, Hasher};
 
 /// How many texts are remembered: a power of two, so that a place is cheap to reckon.
 const PLACES: usize = 4096;
@@ -56,21 +57,11 @@ fn text_by(alloc: Global, known: Text, value: &[u8]) -> Result<Text, AllocError>
     }
 }
 
-/// The place for a value's text, by its length and four of its bytes.
+/// The place for a value's text.
 fn place_of(value: &[u8]) -> usize
     ensures { result < PLACES }
 {
-    let length = value.len();
-    let early = with_byte(length, value, length / 4);
-    let middle = with_byte(early, value, length / 2);
-    let late = with_byte(middle, value, length.wrapping_sub(2));
-    with_byte(late, value, length.wrapping_sub(1)) % PLACES
-}
-
-/// A number that also depends on the byte at a place, where there is one.
-fn with_byte(mixed: usize, value: &[u8], at: usize) -> usize {
-    match value.get(at) {
-        Some(byte) => mixed.wrapping_mul(31).wrapping_add(usize::from(*byte)),
-        None => mixed,
-    }
+    let mut hasher = FoldHasher::default();
+    hasher.write(value);
+    hasher.finish() as usize % PLACES
 }

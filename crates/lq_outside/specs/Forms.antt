@@ -1,5 +1,5 @@
 -- What a contract sees of the forms in memory.
-use Rattle.std.specs.Prelude.{ℕ, List, Option, String, find, map, string_bytes}
+use Rattle.std.specs.Prelude.{◌≡◌, ℕ, List, drop, Option, String, find, map, string_bytes}
 use Rattle.std.specs.Option.{option_map}
 use Rattle.std.specs.Str.{bytes_eq}
 use Rattle.std.specs.Global.{Global, Vec}
@@ -39,3 +39,7 @@ held_in pairs path = option_map (λ pair. pair.1) (find (λ pair. bytes_eq pair.
 -- pairs of a path and a file's bytes, as a contract compares them
 abbrev pub pairs_of : List (String Global × Vec ℕ) → List (List ℕ × List ℕ)
 pairs_of pairs = map (λ pair. (string_bytes pair.0, pair.1.items)) pairs
+
+-- some of the first bytes are gone
+abbrev pub LosesFront : List ℕ → List ℕ → Type 0
+LosesFront old new = (count : ℕ) × (new ≡ drop count old)

@@ -67,6 +67,8 @@ impl Source for MemSource {
 
     ghost faults = { λ s. s.faults };
 
+    ghost one_read = { λ old new. new.calls ≡ next_count old.calls };
+
     ghost other_side = { λ _. (None, 0) };
 
     fn read(&mut self, buf: &mut [u8]) -> Result<usize, Failed>
@@ -77,7 +79,7 @@ impl Source for MemSource {
         // It fails exactly at the numbers given, and its count rises only there.
         ensures fails { IsErr result ↔ Contains self.old.fail_at self.old.calls }
         ensures faults { self.new.faults ≡ faults_after result self.old.faults }
-        ensures calls { self.new.calls ≡ next_count self.old.calls }
+        ensures once { self.new.calls ≡ next_count self.old.calls }
         ensures plan { self.new.fail_at ≡ self.old.fail_at }
         ensures count { IfOk result (λ n. n ≡ min (length self.old.left) (length buf.old)) }
     {

@@ -13,6 +13,10 @@ pub trait Source {
     // How many reads failed.
     ghost faults: { Self → ℕ };
 
+    // What one read makes of this source. Who knows a source by this trait alone has it of two
+    // sources only where the second came from the first by one call of `read`.
+    ghost one_read: { Self → Self → Type 0 };
+
     // The bytes and the faults of a sink that is the other side of this source, where it has one.
     ghost other_side: { Self → Option (List ℕ) × ℕ };
 
@@ -23,5 +27,6 @@ pub trait Source {
         ensures bound { ReadsAtMost result buf.new }
         ensures bytes { ReadConsumes (left self.old) (left self.new) result buf.new }
         ensures cause { HasCause (faults self.old) (faults self.new) result }
+        ensures once { one_read self.old self.new }
         ensures other { other_side self.new ≡ other_side self.old };
 }

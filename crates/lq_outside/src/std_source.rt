@@ -2,7 +2,7 @@ ghost use Rattle.std.specs.Prelude.{◌≡◌, ◌≢◌, IfErr};
 ghost use Rattle.std.specs.Io.{ReadsAtMost};
 ghost use Rattle.std.specs.IoError.{error_kind};
 ghost use Rattle.std.specs.Io.KnownBytes.{ReadConsumes};
-ghost use Rattle.lq_outside.specs.Faults.{HasCause, faults_after};
+ghost use Rattle.lq_outside.specs.Faults.{HasCause, RisesOnceAtMost, faults_after};
 
 use crate::failed::Failed;
 use crate::source::Source;
@@ -59,6 +59,9 @@ impl<R: Read> Source for StdSource<R> {
 
     ghost faults = { read_faults };
 
+    // The count of faults rises by one at most.
+    ghost one_read = { λ old new. RisesOnceAtMost (read_faults old) (read_faults new) };
+
     ghost other_side = { λ _. (None, 0) };
 
     fn read(&mut self, buf: &mut [u8]) -> Result<usize, Failed>
@@ -66,6 +69,7 @@ impl<R: Read> Source for StdSource<R> {
         ensures bytes { ReadConsumes (R.remaining (reader_of self.old))
             (R.remaining (reader_of self.new)) result buf.new }
         ensures cause { HasCause (read_faults self.old) (read_faults self.new) result }
+        ensures once { RisesOnceAtMost (read_faults self.old) (read_faults self.new) }
 
         // The count rises only where a read fails.
         ensures faults { read_faults self.new ≡ faults_after result (read_faults self.old) }

@@ -1,6 +1,7 @@
 ghost use Rattle.std.specs.Prelude.{◌≡◌, Some, None, Ok, length, min, IfOk};
 ghost use Rattle.std.specs.Io.{ReadsAtMost};
 ghost use Rattle.std.specs.Io.KnownBytes.{ReadConsumes};
+ghost use Rattle.lq_outside.specs.Forms.{LosesFront};
 
 use crate::failed::{Failed, Memory};
 use crate::source::Source;
@@ -52,11 +53,14 @@ impl Source for SteadySource {
 
     ghost faults = { λ _. 0 };
 
+    ghost one_read = { LosesFront };
+
     ghost other_side = { λ _. (None, 0) };
 
     fn read(&mut self, buf: &mut [u8]) -> Result<usize, Failed>
         ensures bound { ReadsAtMost result buf.new }
         ensures bytes { ReadConsumes (Some self.old) (Some self.new) result buf.new }
+        ensures once { LosesFront self.old self.new }
         ensures count { result ≡ Ok (min (length self.old) (length buf.old)) }
     {
         Ok(self.unread.give(buf))

@@ -1,5 +1,5 @@
 -- Lists of contacts at their places.
-use Rattle.std.proofs.Common.{◌≡◌, ◌==◌, ℕ, Decides, zero, suc, true, Option, Some, None, List, [], ◌∷◌, ◌++◌, length, map, refl, sym, ap, true≢false, arith, slice_get}
+use Rattle.std.proofs.Common.{◌≡◌, ◌==◌, ℕ, Decides, zero, suc, Option, Some, None, List, [], ◌∷◌, ◌++◌, length, map, refl, sym, ap, true≢false, arith, slice_get}
 use Rattle.std.specs.Option.{is_some}
 use Rattle.std.proofs.lemmas.Bool.{eq-eqb, eqb-true}
 use Rattle.lq_records.specs.Contacts.{AreListsOf}

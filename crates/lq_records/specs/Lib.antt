@@ -5,3 +5,4 @@ pub mod Micros
 pub mod Object
 pub mod Sound
 pub mod Named
+pub mod Text

@@ -1,5 +1,5 @@
 -- The objects of a base by their names. Where several have one name, the first of them is meant.
-use Rattle.std.specs.Prelude.{ℕ, ◌==◌, ◌&&◌, Option, List, bytes_eq}
+use Rattle.std.specs.Prelude.{◌≡◌, ℕ, ◌==◌, ◌&&◌, Option, List, bytes_eq}
 use Rattle.std.specs.List.{position}
 use Rattle.std.specs.Option.{option_map}
 use Rattle.lq_records.specs.declared.base.Contact.{Contact}
@@ -52,3 +52,10 @@ abbrev pub contact_group_named : List ContactGroup → List ℕ → Option Conta
 contact_group_named groups name =
     option_map (λ place. record { 0 = place })
     (position (λ group. bytes_eq group.contactgroup_name name) groups)
+
+-- by each owner and name, the first place of an item that has them
+abbrev pub FindsFirst : {X : Type 0} → (X → ℕ) → (X → List ℕ) → List X
+    → (ℕ → List ℕ → Option ℕ) → Type 0
+FindsFirst owner_of name_of items place_of = (owner : ℕ) (name : List ℕ)
+    → place_of owner name
+    ≡ position (λ item. owner_of item == owner && bytes_eq (name_of item) name) items

@@ -33,7 +33,8 @@ impl Display for Micro {
 
     ghost output = { λ micro. Some (micro_text micro.millionths) };
 
-    /// The digits before the point, a point, and six more; with `-` before them where it is below 0.
+    /// The digits before the point, a point, and six more; with `-` before them where it is below
+    /// 0.
     fn fmt<W: fmt::Write>(&self, f: &mut fmt::Formatter<W>) -> fmt::Result {
         let size = self.millionths.unsigned_abs();
         let whole = size / 1_000_000;

@@ -1,12 +1,14 @@
-ghost use Rattle.std.specs.Prelude.{◌≡◌, ◌==◌, ◌&&◌, ◌<◌, ◌^◌, ◌↔◌, ℕ, List, [], bytes_eq, length, map, IfOk, IfSome, IsTrue};
-ghost use Rattle.std.specs.List.{enumerate_from, position};
-ghost use Rattle.lq_records.specs.Named.{contact_group_named, contact_named, host_group_named, host_named, service_group_named, service_on};
+ghost use Rattle.std.specs.Prelude.{◌≡◌, ◌==◌, ◌&&◌, ◌<◌, ◌^◌, ◌↔◌, ℕ, List, [], bytes_eq, length, IfOk, IfSome, IsTrue};
+ghost use Rattle.std.specs.List.{position};
+ghost use Rattle.indexmap.specs.IndexMap.{get};
+ghost use Rattle.lq_records.specs.Named.{FindsFirst, contact_group_named, contact_named, host_group_named, host_named, service_group_named, service_on};
 
 use crate::Memory;
 use crate::base::{Contact, ContactGroup, Host, HostGroup, Service, ServiceGroup};
 use crate::ids::{ContactGroupId, ContactId, HostGroupId, HostId, ServiceGroupId, ServiceId};
-use crate::name_key::{NameKey, find_key};
+use crate::name_key::{NameKey, NameQuery};
 use crate::text::Text;
+use indexmap::IndexMap;
 use std::alloc::{AllocError, Global};
 use std::marker::Model;
 
@@ -32,25 +34,23 @@ const MOST_ITEMS: usize = 0xFFFF_FFFF;
 #[derive(Drop)]
 pub struct NamedItems<T: NamedObject> {
     items: Vec<T>,
-    /// The name of each item with its place, in order, so that a name is found by halving.
-    keys: Vec<NameKey>,
+    /// The first place of each name.
+    index: IndexMap<NameKey, u32>,
 }
 
 impl<T: NamedObject> Model for NamedItems<T> {
-    ghost use Rattle.std.specs.Prelude.{List, ◌<◌, ◌^◌, length, map, IsPermutation, IsSorted};
-    ghost use Rattle.std.specs.List.{enumerate_from};
+    ghost use Rattle.std.specs.Prelude.{List, ◌<◌, ◌^◌, length};
+    ghost use Rattle.indexmap.specs.IndexMap.{get};
+    ghost use Rattle.lq_records.specs.Named.{FindsFirst};
 
     ghost Value = { List T };
 
     ghost view = { λ list. list.items.items };
 
-    ghost invariant = { λ list.
-        (length list.items.items < 2 ^ 32)
-        × IsPermutation
-        (map (λ item. record { owner = T.owner_of item.1; name = T.name_of item.1; place = item.0 })
-        (enumerate_from 0 list.items.items))
-        list.keys.items
-        × IsSorted ⟦<NameKey as Ord>⟧.cmp list.keys.items };
+    ghost invariant = { λ list. (length list.items.items < 2 ^ 32)
+        × FindsFirst T.owner_of T.name_of list.items.items
+        (λ owner name. get ⟦<NameKey as PartialEq>⟧.eq list.index
+        (record { owner = owner; name = name })) };
 }
 
 impl<T: NamedObject> NamedItems<T> {
@@ -63,9 +63,8 @@ impl<T: NamedObject> NamedItems<T> {
         if items.len() > MOST_ITEMS {
             return Err(AllocError);
         }
-        let mut keys = keys_of(alloc, &items)?;
-        keys.sort_unstable();
-        Ok(NamedItems { items, keys })
+        let index = index_of(alloc, &items)?;
+        Ok(NamedItems { items, index })
     }
 
     /// How many items it has.
@@ -95,26 +94,35 @@ impl<T: NamedObject> NamedItems<T> {
             (λ item. T.owner_of item == owner && bytes_eq (T.name_of item) name.now) self.now }
         ensures within { IfSome result (λ place. place < length self.now) }
     {
-        find_key(&self.keys, owner, name)
+        self.index.get(NameQuery { owner, name }).copied()
     }
 }
 
-/// The names of items, each with its place.
-fn keys_of<T: NamedObject>(alloc: Global, items: &[T]) -> Result<Vec<NameKey>, Memory>
+/// The first place of each name of items.
+fn index_of<T: NamedObject>(alloc: Global, items: &[T]) -> Result<IndexMap<NameKey, u32>, Memory>
     requires { length items.now < 2 ^ 32 }
-    ensures { IfOk result (λ keys. keys.items ≡
-        map (λ item. record { owner = T.owner_of item.1; name = T.name_of item.1; place = item.0 })
-        (enumerate_from 0 items.now)) }
+    ensures { IfOk result (λ index. FindsFirst T.owner_of T.name_of items.now
+        (λ owner name. get ⟦<NameKey as PartialEq>⟧.eq index
+        (record { owner = owner; name = name }))) }
 {
-    let mut keys = Vec::with_capacity(alloc, items.len())?;
+    let mut index = IndexMap::with_capacity(alloc, items.len())?;
     for (place, item) in items.iter().enumerate() {
-        keys.push(NameKey {
+        let query = NameQuery {
             owner: item.owner(),
+            name: item.name().as_str(),
+        };
+        if index.contains_key(query) {
+            continue;
+        }
+        let key = NameKey {
+            owner: query.owner,
             name: item.name().clone()?,
-            place: place as u32,
-        })?;
+        };
+        let Ok(_) = index.insert(key, place as u32) else {
+            return Err(AllocError);
+        };
     }
-    Ok(keys)
+    Ok(index)
 }
 
 impl NamedItems<Host> {

@@ -1,37 +1,60 @@
-ghost use Rattle.std.specs.Prelude.{◌≡◌, IfOk, [], string_bytes};
+ghost use Rattle.std.specs.Prelude.{◌≡◌, IfOk, IfSome, [], string_bytes};
+ghost use Rattle.std.specs.Arc.{arc_str_bytes};
+ghost use Rattle.lq_records.specs.Text.{IsKept, bytes_of};
 
 use crate::Memory;
 use std::alloc::{AllocError, Global};
 use std::cmp::Ordering;
+use std::fmt;
+use std::fmt::{Debug, Formatter, Write};
 use std::hash::{Hash, Hasher};
 use std::marker::Model;
 use std::sync::ArcStr;
 
 /// A text that the data holds. Contracts see it as its bytes, which are UTF-8.
 ///
-/// Its clones share the bytes, so that a text of which the data has many is held once.
-#[derive(Debug, Drop)]
+/// The clones of a text share its bytes, and so do its ends, so that a text of which the data has
+/// many is held once.
 pub struct Text {
-    /// None for the empty text, which takes no memory.
-    inner: Option<ArcStr>,
+    kept: Kept,
+}
+
+// Written by hand: where one is dropped a proof then meets a call, and not each of the forms.
+impl Drop for Text {
+    fn drop(self) {
+        let Text { kept: _kept } = self;
+    }
+}
+
+/// How the bytes of a text are kept.
+#[derive(Drop)]
+pub(crate) enum Kept {
+    /// The empty text has none, and takes no memory.
+    Empty,
+    /// In memory that clones share, from a byte of it to its end.
+    Shared { from: u32, whole: ArcStr },
 }
 
 impl Model for Text {
-    ghost use Rattle.std.specs.Arc.{arc_str_bytes};
-    ghost use Rattle.std.specs.Option.{option_map_or};
-    ghost use Rattle.std.specs.Prelude.{List, ℕ, []};
+    ghost use Rattle.lq_records.specs.Text.{IsKept, bytes_of};
+    ghost use Rattle.std.specs.Prelude.{List, ℕ};
 
     ghost Value = { List ℕ };
 
-    ghost view = { λ text. option_map_or arc_str_bytes text.inner [] };
+    ghost view = { λ text. bytes_of text.kept };
+
+    ghost invariant = { λ text. IsKept text.kept };
 }
+
+/// The most bytes that may stand before an end.
+const LONGEST: usize = 0xFFFF_FFFF;
 
 impl Text {
     /// The empty text. It takes no memory.
     pub fn empty() -> Self
         ensures { result ≡ [] }
     {
-        Text { inner: None }
+        Text { kept: Kept::Empty }
     }
 
     /// A copy of a text. The only error is that memory runs out.
@@ -41,28 +64,71 @@ impl Text {
         if text.is_empty() {
             return Ok(Text::empty());
         }
-        Ok(Text {
-            inner: Some(ArcStr::from_str(alloc, text)?),
-        })
+        Ok(Text::of_whole(ArcStr::from_str(alloc, text)?))
     }
 
     /// The text that a string has. The only error is that memory runs out.
     pub fn from_string(string: String) -> Result<Self, Memory>
         ensures { IfOk result (λ text. text ≡ string_bytes string) }
     {
-        Ok(Text {
-            inner: Some(ArcStr::from_string(string)?),
-        })
+        Ok(Text::of_whole(ArcStr::from_string(string)?))
+    }
+
+    /// All of some shared bytes.
+    fn of_whole(whole: ArcStr) -> Self
+        ensures { result ≡ arc_str_bytes whole }
+    {
+        // Tells the proof that the bytes are UTF-8, so that a character begins at the front.
+        let _ = whole.as_str();
+        Text {
+            kept: Kept::Shared { from: 0, whole },
+        }
+    }
+
+    /// A text that shares the bytes of this one where it is an end of it, and else a copy. The only
+    /// error is that memory runs out.
+    pub fn with_end(&self, alloc: Global, end: &str) -> Result<Self, Memory>
+        ensures { IfOk result (λ text. text ≡ end.now) }
+    {
+        if let Some(kept) = self.kept.of_end(end)? {
+            return Ok(Text { kept });
+        }
+        Text::new(alloc, end)
     }
 
     /// The text as a string slice.
     pub fn as_str(&self) -> &str
         ensures { result.now ≡ self.now }
     {
-        match &self.inner {
-            Some(text) => text.as_str(),
-            None => "",
+        match &self.kept {
+            Kept::Empty => "",
+            Kept::Shared { from, whole } => &whole.as_str()[*from as usize..],
         }
+    }
+}
+
+impl Kept {
+    /// The bytes of an end of the whole text. None where they aren't its end, or are none. The only
+    /// error is that memory runs out.
+    fn of_end(&self, end: &str) -> Result<Option<Kept>, Memory>
+        ensures { IfOk result
+            (λ found. IfSome found (λ kept. IsKept kept × (bytes_of kept ≡ end.now))) }
+    {
+        let Kept::Shared { whole, .. } = self else {
+            return Ok(None);
+        };
+        let text = whole.as_str();
+        if end.is_empty() || end.len() > text.len() {
+            return Ok(None);
+        }
+        let from = text.len() - end.len();
+        if from > LONGEST || !text.is_char_boundary(from) || &text[from..] != end {
+            return Ok(None);
+        }
+        Ok(Some(Kept::Shared {
+            from: from as u32,
+            whole: whole.clone()?,
+        }))
     }
 }
 
@@ -73,9 +139,21 @@ impl Clone for Text {
 
     /// The same text, which shares its bytes with this one. The only error is that memory runs out.
     fn clone(&self) -> Result<Self, AllocError> {
-        Ok(Text {
-            inner: self.inner.clone()?,
-        })
+        let kept = match &self.kept {
+            Kept::Empty => Kept::Empty,
+            Kept::Shared { from, whole } => Kept::Shared {
+                from: *from,
+                whole: whole.clone()?,
+            },
+        };
+        Ok(Text { kept })
+    }
+}
+
+impl Debug for Text {
+    fn fmt<W: Write>(&self, f: &mut Formatter<W>) -> fmt::Result {
+        let text = self.as_str();
+        Debug::fmt(&text, f)
     }
 }
 

@@ -1,7 +1,6 @@
 use lq_records::{Items, Micro, Text};
 
 /// The value of a cell. Single texts are borrowed, lists are copies.
-#[derive(Drop)]
 pub enum Val<'a> {
     /// A whole number.
     Int(i128),
@@ -17,4 +16,17 @@ pub enum Val<'a> {
     Pairs(Items<(Text, Text)>),
     /// A text of its own.
     Own(Text),
+}
+
+// Written by hand: where one is dropped a proof then meets a call, and not each of the forms.
+impl Drop for Val<'_> {
+    fn drop(self) {
+        match self {
+            Val::Int(_) | Val::Micro(_) | Val::Str(_) => {}
+            Val::List(_texts) => {}
+            Val::Nums(_numbers) => {}
+            Val::Pairs(_pairs) => {}
+            Val::Own(_text) => {}
+        }
+    }
 }

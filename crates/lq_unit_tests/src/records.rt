@@ -6,7 +6,15 @@ use std::alloc::{AllocError, Global};
 use std::process::Abort;
 use std::test::Fail;
 
-const TEXTS: &[&str] = &["", "a", "web1", "Größe 5", "a\0b", " \t"];
+const TEXTS: &[&str] = &[
+    "",
+    "a",
+    "web1",
+    "Größe 5",
+    "a\0b",
+    " \t",
+    "Größe »17« € 𝄞 in Räumen",
+];
 
 /// Whether a copy of a text, one of its string and a clone are the text, the clone also after what
 /// it was made from is gone.
@@ -17,6 +25,32 @@ fn is_kept(alloc: Global, text: &str) -> Result<bool, AllocError> {
     let shared = copy.clone()?;
     drop(copy);
     Ok(is_same && shared == of_string && shared.as_str() == text)
+}
+
+/// Texts, and one that may be their end.
+const ENDS: &[(&str, &str)] = &[
+    ("", ""),
+    ("", "web1"),
+    ("web1.rack7.room12", "room12"),
+    ("web1.rack7.room12", "web1.rack7.room12"),
+    ("web1.rack7.room12", "eb1.rack7.room12"),
+    ("web1.rack7.room12", "xx1.rack7.room12"),
+    ("web1.rack7.room12", "in web1.rack7.room12"),
+    ("web1.rack7.room12", "web1.rack7.room"),
+    ("Größe €€", "€€"),
+    // The end would begin within a character.
+    ("€€€€€€€", "web1.rack7.room1"),
+];
+
+/// Whether what may be the end of a text is itself, and so are a clone and an end of it, also after
+/// the text is gone.
+fn is_end_kept(alloc: Global, (text, end): (&str, &str)) -> Result<bool, AllocError> {
+    let text = Text::new(alloc, text)?;
+    let part = text.with_end(alloc, end)?;
+    let again = part.with_end(alloc, end)?;
+    let clone = part.clone()?;
+    drop(text);
+    Ok(part.as_str() == end && again.as_str() == end && clone == Text::new(alloc, end)?)
 }
 
 const EQUAL: &[(&str, &str, bool)] = &[
@@ -79,6 +113,9 @@ fn is_long_cleaned(alloc: Global) -> Result<bool, AllocError> {
 fn texts_keep_their_strings(rt: HostRuntime) -> Result<(), Fail> {
     for text in TEXTS {
         assert!(rt; is_kept(rt.alloc(), *text)?, "at {text:?}");
+    }
+    for case in ENDS {
+        assert!(rt; is_end_kept(rt.alloc(), *case)?, "at {case:?}");
     }
     for case in EQUAL {
         assert!(rt; is_answer(rt.alloc(), *case)?, "at {case:?}");

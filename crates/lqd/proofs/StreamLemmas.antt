@@ -272,22 +272,50 @@ whole_done s old left out_old out now held room at none =
     whole_taken s old left out_old out now held room at ∙ ap (λ bytes. at.done ++ whole_messages bytes) (append_none held)
     ∙ ap (λ later. at.done ++ later) none ∙ append_none at.done
 
-pub none_further : (left : Option (List ℕ)) → ReadsNoFurther left left
-unfolding is_over whole_messages messages_up_to
-none_further left = record { before = []; last = []; consumed = Consumes-nil left; goes_on = refl; few = omega arith }
+-- the connection goes on by what was read
+pub record GoesOn (old left : Option (List ℕ)) : Type 0 where
+  pub taken : List ℕ
+  pub consumed : Consumes old left taken
+  pub goes_on : is_over (whole_messages taken) ≡ false
 
-pub one_further : (s : State) (old left left_new out_old out out_new : Option (List ℕ)) (now next : Counted) (ended ended_new : Bool) (held mid held_new : List ℕ) (room : ℕ)
-    → Stands s old left out_old out now ended held room → WantsMore ended held mid now next out out_new → Fills ended_new left left_new mid held_new → 0 < room
-    → ReadsNoFurther old left_new
-one_further s old left left_new out_old out out_new now next ended ended_new held mid held_new room at wants fills some =
+-- where more bytes are wanted
+pub going_on : (s : State) (old left out_old out out_new : Option (List ℕ)) (now next : Counted) (ended : Bool) (held mid : List ℕ) (room : ℕ)
+    → Stands s old left out_old out now ended held room → WantsMore ended held mid now next out out_new → 0 < room → GoesOn old left
+going_on s old left out_old out out_new now next ended held mid room at wants some =
     let more : Stands s old left out_old out now false held room = subst (λ end. Stands s old left out_old out now end held room) wants.end at in
     record {
-      before = more.taken;
-      last = fills.bytes;
-      consumed = Consumes-trans old left left_new more.taken fills.bytes more.consumed fills.taken;
+      taken = more.taken;
+      consumed = more.consumed;
       goes_on = ap is_over (whole_done s old left out_old out now held room more wants.none) ∙ not_over more.done room (room - 1) more.count (omega (arith, some)) more.kept;
-      few = fills.few;
     }
+
+module _ {Input : Type 0} (left_in : Input → Option (List ℕ)) (one_read : Input → Input → Type 0) where
+  pub none_further : (old : Input) → ReadsNoFurther left_in one_read old old
+  unfolding is_over whole_messages messages_up_to
+  none_further old = record {
+    point = old;
+    before = [];
+    last = [];
+    consumed = Consumes-nil (left_in old);
+    goes_on = refl;
+    taken = Consumes-nil (left_in old);
+    once = inl refl;
+    few = omega arith;
+  }
+
+  -- one read after a point at which it goes on
+  pub one_further : (old point new : Input) → GoesOn (left_in old) (left_in point) → (ended : Bool) (held held_new : List ℕ)
+      → Fills ended (left_in point) (left_in new) held held_new → one_read point new → ReadsNoFurther left_in one_read old new
+  one_further old point new on ended held held_new fills once = record {
+    point = point;
+    before = on.taken;
+    last = fills.bytes;
+    consumed = on.consumed;
+    goes_on = on.goes_on;
+    taken = fills.taken;
+    once = inr once;
+    few = fills.few;
+  }
 
 -- ---- where it breaks off
 

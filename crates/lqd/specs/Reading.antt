@@ -19,13 +19,17 @@ pub record ReadsAll (old left : Option (List ℕ)) : Type 0 where
   pub consumed : Consumes old left taken
   pub enough : IsAtEnd left ⊎ (is_over (whole_messages taken) ≡ true)
 
--- What was read is a part within whose whole messages the connection doesn't end, and after it at
--- most 65,536 bytes, no more than one read takes. Both may be empty.
-pub record ReadsNoFurther (old left : Option (List ℕ)) : Type 0 where
+-- At most one read came after a point of the input up to which the connection doesn't end within
+-- the whole messages. It took at most 65,536 bytes.
+pub record ReadsNoFurther {Input : Type 0} (left_in : Input → Option (List ℕ))
+    (one_read : Input → Input → Type 0) (old new : Input) : Type 0 where
+  pub point : Input
   pub before : List ℕ
   pub last : List ℕ
-  pub consumed : Consumes old left (before ++ last)
+  pub consumed : Consumes (left_in old) (left_in point) before
   pub goes_on : is_over (whole_messages before) ≡ false
+  pub taken : Consumes (left_in point) (left_in new) last
+  pub once : (new ≡ point) ⊎ one_read point new
   pub few : length last ≤ 65536
 
 -- the connection doesn't end within the messages that are whole in what was read

@@ -81,7 +81,7 @@ pub fn run<R, F: Files, S: Source, K: Sink>(
     ensures no_file { result ≡ 1 → files.new ≡ files.old }
     ensures read { result ≡ 0 → OnSome (asked_connection (map string_bytes words.now))
         (ReadsAll (S.left input.old) (S.left input.new)) }
-    ensures no_further { result ≡ 0 → ReadsNoFurther (S.left input.old) (S.left input.new) }
+    ensures no_further { result ≡ 0 → ReadsNoFurther S.left S.one_read input.old input.new }
     ensures written { result ≡ 0
         → OnOpening (asked_connection (map string_bytes words.now)) (F.held_at files.old)
         (λ s. IfSome (S.left input.old) (λ all.

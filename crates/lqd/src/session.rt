@@ -72,7 +72,7 @@ pub fn serve<S: Source, K: Sink>(
     ensures written { OnOk result (IfSome (S.left input.old) (λ all.
         Appends (K.held output.old) (K.held output.new) (replies live.state all))) }
     ensures read { OnOk result (ReadsAll (S.left input.old) (S.left input.new)) }
-    ensures no_further { OnOk result (ReadsNoFurther (S.left input.old) (S.left input.new)) }
+    ensures no_further { OnOk result (ReadsNoFurther S.left S.one_read input.old input.new) }
     ensures stopped { IfErr result (λ error. Stops error live.state
         (S.left input.old) (S.left input.new) (K.held output.old) (K.held output.new)) }
     ensures refused { result ≡ Err ServeErr.Memory
@@ -106,7 +106,7 @@ fn serve_all<S: Source, K: Sink>(
     ensures written { OnOk result (IfSome (S.left input.old) (λ all.
         Appends (K.held output.old) (K.held output.new) (replies session.old.state all))) }
     ensures read { OnOk result (ReadsAll (S.left input.old) (S.left input.new)) }
-    ensures no_further { OnOk result (ReadsNoFurther (S.left input.old) (S.left input.new)) }
+    ensures no_further { OnOk result (ReadsNoFurther S.left S.one_read input.old input.new) }
     ensures stopped { IfErr result (λ error. Stops error session.old.state
         (S.left input.old) (S.left input.new) (K.held output.old) (K.held output.new)) }
     ensures refused { result ≡ Err ServeErr.Memory
@@ -163,6 +163,7 @@ fn fill<S: Source>(input: &mut S, cut: &mut Cut, piece: &mut [u8]) -> Result<boo
     ensures err { OnErr result (Keeps (S.left input.old) (S.left input.new)) }
     ensures same { OnErr result (cut.new ≡ cut.old) }
     ensures read { IfErr result (λ error. error ≡ ServeErr.Read) }
+    ensures once { S.one_read input.old input.new }
     ensures cause { HasCause (S.faults input.old) (S.faults input.new) result }
 {
     let most = cut.room().min(piece.len());

@@ -749,11 +749,14 @@ struct OneByte {
 }
 
 impl Source for OneByte {
-    ghost use Rattle.std.specs.Prelude.{None};
+    ghost use Rattle.std.specs.Prelude.{◌≡◌, None};
+    ghost use Rattle.lq_outside.specs.Faults.{next_count};
 
     ghost left = { λ _. None };
 
     ghost faults = { λ s. s.inner.faults };
+
+    ghost one_read = { λ old new. new.inner.calls ≡ next_count old.inner.calls };
 
     ghost other_side = { λ _. (None, 0) };
 
@@ -1067,11 +1070,14 @@ struct Greedy {
 }
 
 impl Source for Greedy {
-    ghost use Rattle.std.specs.Prelude.{None};
+    ghost use Rattle.std.specs.Prelude.{◌≡◌, None};
+    ghost use Rattle.lq_outside.specs.Faults.{next_count};
 
     ghost left = { λ _. None };
 
     ghost faults = { λ s. s.inner.faults };
+
+    ghost one_read = { λ old new. new.inner.calls ≡ next_count old.inner.calls };
 
     ghost other_side = { λ _. (None, 0) };
 

@@ -35,7 +35,7 @@ returns-in-Err-clause-report g c = λ still.
     )
 
 pub returns-in-Some-Load-clause-no_further : goal.returns-in-Some-Load-clause-no_further
-returns-in-Some-Load-clause-no_further g c = λ done. none_further _
+returns-in-Some-Load-clause-no_further g c = λ done. none_further _ _ _
 
 pub returns-in-Some-Load-clause-report : goal.returns-in-Some-Load-clause-report
 returns-in-Some-Load-clause-report g c = λ still.

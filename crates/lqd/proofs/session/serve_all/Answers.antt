@@ -1,6 +1,6 @@
 use Rattle.std.proofs.Common.{◌≡◌, [], length, arith, ap}
 use Rattle.lqd.specs.Session.{Serves, WantsMore}
-use Rattle.lqd.proofs.StreamLemmas.{stands_first, stands_next, stands_read, last_replied, none_replied, full_replied, last_read, none_read, full_read, none_further, one_further, next_stopped, next_refused, read_stopped}
+use Rattle.lqd.proofs.StreamLemmas.{stands_first, stands_next, stands_read, last_replied, none_replied, full_replied, last_read, none_read, full_read, going_on, none_further, one_further, next_stopped, next_refused, read_stopped}
 use Rattle.lqd.specs.declared.session.ServeErr.TheVariants as error
 use Rattle.lqd.proofs.session.serve_all.Goals as goal
 
@@ -12,7 +12,7 @@ messages-init g c =
       output_later = omega arith;
       stands = stands_first _ _ _ _ _ c.requires.opened none;
       small = omega (arith, ap length none);
-      no_further = none_further _;
+      no_further = none_further _ _ _;
       size = c.requires.size;
     }
 
@@ -38,7 +38,7 @@ messages-preserved g c =
       output_later = omega (arith, c.messages.invariant.output_later, c.in-Ok-More.ensures.later);
       stands = stands_read _ _ _ _ _ _ _ _ _ _ _ _ _ _ _ c.messages.invariant.stands wants c.in-Ok.ensures.ok;
       small = c.in-Ok.ensures.ok.small;
-      no_further = one_further _ _ _ _ _ _ _ _ _ _ _ _ _ _ _ c.messages.invariant.stands wants c.in-Ok.ensures.ok c.messages-test.true;
+      no_further = one_further _ _ _ _ _ (going_on _ _ _ _ _ _ _ _ _ _ _ _ c.messages.invariant.stands wants c.messages-test.true) _ _ _ c.in-Ok.ensures.ok c.in-Ok.ensures.once;
       size = omega (arith, c.fill.auto.piece, c.messages.invariant.size);
     }
 

@@ -9,7 +9,7 @@ invariant-messages g l = record {
   output_later : g.K.Sink.faults l.initial.output ≤ g.K.Sink.faults l.output;
   stands : Stands l.initial.session.state (g.S.Source.left l.initial.input) (g.S.Source.left l.input) (g.K.Sink.held l.initial.output) (g.K.Sink.held l.output) l.session l.ended l.cut l.left;
   small : length l.cut ≤ 65537;
-  no_further : ReadsNoFurther (g.S.Source.left l.initial.input) (g.S.Source.left l.input);
+  no_further : ReadsNoFurther g.S.Source.left g.S.Source.one_read l.initial.input l.input;
   size : length l.piece ≡ 65536;
 }
 
