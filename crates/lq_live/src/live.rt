@@ -23,11 +23,21 @@ use std::marker::Model;
 
 /// The state of the objects of a base, and how many updates led to it. Seconds are counted from
 /// the beginning of 1970.
-#[derive(Drop)]
 pub struct Live {
     alloc: Global,
     state: LiveState,
     count: u64,
+}
+
+// Written by hand: where one is dropped a proof then meets a call, and not each of the fields.
+impl Drop for Live {
+    fn drop(self) {
+        let Live {
+            alloc: _alloc,
+            state: _state,
+            count: _count,
+        } = self;
+    }
 }
 
 impl Model for Live {

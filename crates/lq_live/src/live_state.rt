@@ -14,7 +14,6 @@ use std::alloc::Global;
 use std::sync::Arc;
 
 /// The state that is kept, and what finds things in it sooner.
-#[derive(Drop)]
 pub(crate) struct LiveState {
     /// Shared with its copies.
     pub(crate) base: Arc<Base, Global>,
@@ -32,6 +31,26 @@ pub(crate) struct LiveState {
     pub(crate) next_moment: u64,
     /// What the log last told.
     pub(crate) told: LastTold,
+}
+
+// Written by hand: where one is dropped a proof then meets a call, and not each of the fields.
+impl Drop for LiveState {
+    fn drop(self) {
+        let LiveState {
+            base: _base,
+            host_status: _host_status,
+            service_status: _service_status,
+            downtimes: _downtimes,
+            comments: _comments,
+            log: _log,
+            present: _present,
+            next_downtime: _next_downtime,
+            next_comment: _next_comment,
+            notifications: _notifications,
+            next_moment: _next_moment,
+            told: _told,
+        } = self;
+    }
 }
 
 impl LiveState {

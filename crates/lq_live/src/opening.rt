@@ -23,6 +23,7 @@ impl LiveState {
         ensures state { IfOk result (λ live. state_of live ≡ all_pending base) }
         ensures parted { IfOk result (λ live. all_parted (state_of live) ≡ all_pending base) }
     {
+        let told = LastTold::empty(alloc)?;
         let host_status = pending_hosts(alloc, base.hosts.as_slice())?;
         let service_status = pending_services(alloc, base.services.as_slice())?;
         let base = Arc::new(alloc, base)?;
@@ -38,7 +39,7 @@ impl LiveState {
             next_comment: 1,
             notifications: true,
             next_moment: u64::MAX,
-            told: LastTold::empty(alloc)?,
+            told,
         })
     }
 

@@ -10,9 +10,15 @@ use std::marker::Model;
 
 /// Different names of one kind in order, with the place of each. Contracts see them as a list.
 /// There are fewer than 2 ^ 32, so that a `u32` holds each place.
-#[derive(Drop)]
 pub struct NameIndex {
     names: IndexSet<(Text, Text)>,
+}
+
+// Written by hand: where one is dropped a proof then meets a call, and not each of the fields.
+impl Drop for NameIndex {
+    fn drop(self) {
+        let NameIndex { names: _names } = self;
+    }
 }
 
 impl Model for NameIndex {

@@ -1,6 +1,14 @@
 -- The objects that are gathered while a file is read.
+use Rattle.std.specs.Prelude.{ℕ, List, [], codes}
+use Rattle.lq_names.specs.Names.{Name}
 use Rattle.lq_records.specs.declared.base.Base.{Base}
+use Rattle.lq_records.specs.declared.base.ObjectFields.{ObjectFields}
+use Rattle.lq_objects.specs.Blocks.{Line}
+use Rattle.lq_objects.specs.Names.{text_or}
+use Rattle.lq_objects.specs.Objects.{custom_variables, ids, number_or}
 use Rattle.lq_objects.specs.declared.draft.Draft.{Draft}
+use Rattle.lq_objects.specs.declared.kind.Kind.{Kind}
+use Rattle.lq_objects.specs.declared.kind.Reference.TheVariants as reference
 
 -- the base of the objects so far
 abbrev pub drafted : Draft → Base
@@ -14,4 +22,45 @@ drafted draft = record {
   periods = draft.periods;
   commands = draft.commands;
   rules = draft.rules;
+}
+
+-- ---- what hosts and services share, field by field
+
+-- the numbers, and nothing else yet
+abbrev pub numbers_of : List Line → ObjectFields
+numbers_of lines = record {
+  display_name = [];
+  check_command = [];
+  check_period = [];
+  notification_period = [];
+  max_check_attempts = number_or 1 1 1000000 (codes "max_check_attempts") lines;
+  notifications_enabled = number_or 1 0 1 (codes "notifications_enabled") lines;
+  contacts = [];
+  contact_groups = [];
+  notes = [];
+  notes_url = [];
+  action_url = [];
+  icon_image = [];
+  custom_variables = [];
+}
+
+-- the same with their texts
+abbrev pub with_texts : List ℕ → List Line → ObjectFields → ObjectFields
+with_texts own_name lines fields = record fields {
+  display_name = text_or own_name (codes "display_name") lines;
+  check_command = text_or [] (codes "check_command") lines;
+  check_period = text_or [] (codes "check_period") lines;
+  notification_period = text_or [] (codes "notification_period") lines;
+  notes = text_or [] (codes "notes") lines;
+  notes_url = text_or [] (codes "notes_url") lines;
+  action_url = text_or [] (codes "action_url") lines;
+  icon_image = text_or [] (codes "icon_image") lines;
+}
+
+-- the same with their lists
+abbrev pub with_lists : (Kind → List Name) → List Line → ObjectFields → ObjectFields
+with_lists known lines fields = record fields {
+  contacts = ids (λ place. record { 0 = place }) known reference.Contacts lines;
+  contact_groups = ids (λ place. record { 0 = place }) known reference.ContactGroups lines;
+  custom_variables = custom_variables lines;
 }

@@ -1,8 +1,8 @@
-ghost use Rattle.std.specs.Prelude.{◌≡◌, ◌≤◌, List, [], IfOk, IsTrue, map};
+ghost use Rattle.std.specs.Prelude.{◌≡◌, ◌≤◌, List, [], IfOk, IsTrue, OnOk, map};
 ghost use Rattle.lq_names.specs.Names.{Name};
 ghost use Rattle.lq_objects.specs.Words.{is_word};
 ghost use Rattle.lq_objects.specs.Directories.{known};
-ghost use Rattle.lq_objects.specs.Drafts.{drafted};
+ghost use Rattle.lq_objects.specs.Drafts.{drafted, numbers_of, with_lists, with_texts};
 ghost use Rattle.lq_objects.specs.Names.{text_or};
 ghost use Rattle.lq_objects.specs.Objects.{command_of, contact_group_of, contact_of, fields_of};
 ghost use Rattle.lq_objects.specs.Objects.{host_group_of, host_of, number_or, objects_of, period_of};
@@ -40,7 +40,7 @@ pub(crate) fn objects_of(
             directory,
             lines: block.lines(),
         };
-        draft = reader.add_to(draft, block.kind())?;
+        reader.add_to(&mut draft, block.kind())?;
     }
     draft.finish(texts.alloc())
 }
@@ -54,10 +54,10 @@ struct Reader<'r, 'a> {
 }
 
 impl<'r, 'a> Reader<'r, 'a> {
-    /// The objects with the block's own at the end of its kind.
-    fn add_to(&self, mut draft: Draft, kind: Kind) -> Result<Draft, AllocError>
-        ensures { IfOk result (λ longer. drafted longer
-            ≡ with_object (known self.now.directory.now) (drafted draft) kind self.now.lines.now) }
+    /// Adds the block's own object at the end of its kind.
+    fn add_to(&self, draft: &mut Draft, kind: Kind) -> Result<(), AllocError>
+        ensures { OnOk result (drafted draft.new ≡ with_object
+            (known self.now.directory.now) (drafted draft.old) kind self.now.lines.now) }
     {
         match kind {
             Kind::Host => draft.hosts.push(self.host()?)?,
@@ -69,7 +69,7 @@ impl<'r, 'a> Reader<'r, 'a> {
             Kind::Period => draft.periods.push(self.period()?)?,
             Kind::Command => draft.commands.push(self.command()?)?,
         }
-        Ok(draft)
+        Ok(())
     }
 
     fn host(&self) -> Result<Host, AllocError>
@@ -103,21 +103,58 @@ impl<'r, 'a> Reader<'r, 'a> {
         ensures { IfOk result (λ fields. fields
             ≡ fields_of (known self.now.directory.now) own_name.now self.now.lines.now) }
     {
-        Ok(ObjectFields {
-            display_name: self.text_or(own_name, b"display_name")?,
-            check_command: self.text(b"check_command")?,
-            check_period: self.text(b"check_period")?,
-            notification_period: self.text(b"notification_period")?,
+        let mut fields = self.numbers();
+        self.fill_texts(&mut fields, own_name)?;
+        self.fill_lists(&mut fields)?;
+        Ok(fields)
+    }
+
+    /// The numbers of a host or a service. Its other fields are filled in place, so that a proof
+    /// meets one value at each `?`, and not each field before it.
+    fn numbers(&self) -> ObjectFields
+        ensures { result ≡ numbers_of self.now.lines.now }
+    {
+        let alloc = self.texts.alloc();
+        ObjectFields {
+            display_name: Text::empty(),
+            check_command: Text::empty(),
+            check_period: Text::empty(),
+            notification_period: Text::empty(),
             max_check_attempts: number_or_one(1, MOST_ATTEMPTS, b"max_check_attempts", self.lines),
             notifications_enabled: number_or_one(0, 1, b"notifications_enabled", self.lines) as u8,
-            contacts: self.ids(Reference::Contacts)?,
-            contact_groups: self.ids(Reference::ContactGroups)?,
-            notes: self.text(b"notes")?,
-            notes_url: self.text(b"notes_url")?,
-            action_url: self.text(b"action_url")?,
-            icon_image: self.text(b"icon_image")?,
-            custom_variables: custom_variables(self.texts, self.lines)?,
-        })
+            contacts: Items::new(alloc),
+            contact_groups: Items::new(alloc),
+            notes: Text::empty(),
+            notes_url: Text::empty(),
+            action_url: Text::empty(),
+            icon_image: Text::empty(),
+            custom_variables: Items::new(alloc),
+        }
+    }
+
+    fn fill_texts(&self, fields: &mut ObjectFields, own_name: &Text) -> Result<(), AllocError>
+        ensures { OnOk result (fields.new
+            ≡ with_texts own_name.now self.now.lines.now fields.old) }
+    {
+        fields.display_name = self.text_or(own_name, b"display_name")?;
+        fields.check_command = self.text(b"check_command")?;
+        fields.check_period = self.text(b"check_period")?;
+        fields.notification_period = self.text(b"notification_period")?;
+        fields.notes = self.text(b"notes")?;
+        fields.notes_url = self.text(b"notes_url")?;
+        fields.action_url = self.text(b"action_url")?;
+        fields.icon_image = self.text(b"icon_image")?;
+        Ok(())
+    }
+
+    fn fill_lists(&self, fields: &mut ObjectFields) -> Result<(), AllocError>
+        ensures { OnOk result (fields.new
+            ≡ with_lists (known self.now.directory.now) self.now.lines.now fields.old) }
+    {
+        fields.contacts = self.ids(Reference::Contacts)?;
+        fields.contact_groups = self.ids(Reference::ContactGroups)?;
+        fields.custom_variables = custom_variables(self.texts, self.lines)?;
+        Ok(())
     }
 
     fn host_group(&self) -> Result<HostGroup, AllocError>

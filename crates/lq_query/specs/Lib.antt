@@ -4,3 +4,4 @@ pub mod Answer
 pub mod Lines
 pub mod Counting
 pub mod Isolation
+pub mod SeenRow

@@ -2,12 +2,13 @@ ghost use Rattle.std.specs.Prelude.{◌≡◌, ◌-◌, ◌<◌, ◌∷◌, [], 
 ghost use Rattle.std.specs.List.{list_any};
 ghost use Rattle.lq_output.specs.Writing.{AddsCell, IsTooLargeWith, with_cell};
 ghost use Rattle.lq_output.specs.declared.error.WriteErr.TheVariants.{TooLarge};
-ghost use Rattle.lq_tables.specs.Cells.{cell_of};
 ghost use Rattle.lq_query.specs.Answer.{first_lines};
 ghost use Rattle.lq_query.specs.Rows.{chosen, row_cells};
 ghost use Rattle.lq_query.specs.Lines.{HasLines, IsTooLarge, seen_cells, first_rows, marked};
+ghost use Rattle.lq_query.specs.SeenRow.{values_of};
 
 use crate::column::ShownColumn;
+use crate::seen_row::SeenRow;
 use crate::selection::Selection;
 use crate::sight::Sight;
 use lq_filter::Filter;
@@ -20,6 +21,9 @@ use std::alloc::Global;
 /// How many rows are tested at once. More would keep those behind the last one that may be shown
 /// from being left alone, and fewer would turn from one test to the next too often.
 const BLOCK: usize = 512;
+
+/// Up to how many columns the cells of a row are found one by one.
+const FEW_COLUMNS: usize = 4;
 
 /// What the lines of rows are written from.
 #[derive(Drop)]
@@ -220,19 +224,34 @@ impl Page<'_> {
         ensures large { result ≡ Err TooLarge → IsTooLarge writer.old
             (row_cells self.now.columns.now (seen_cells self.now.sight row.now) ∷ []) }
     {
+        if self.columns.len() > FEW_COLUMNS {
+            return self.push_wide(writer, row);
+        }
+        let sight = self.sight;
+        self.push_cells(writer, SeenRow::Few { sight, row })
+    }
+
+    /// The same for a row with many columns. It stands apart so that a row with few makes no room
+    /// for all that cells may be about.
+    #[inline(never)]
+    fn push_wide(&self, writer: &mut Writer, row: &Row) -> Result<(), WriteErr>
+        requires { 0 < length self.now.columns.now }
+        ensures lines { OnOk result (HasLines writer.old writer.new
+            (row_cells self.now.columns.now (seen_cells self.now.sight row.now) ∷ [])) }
+        ensures large { result ≡ Err TooLarge → IsTooLarge writer.old
+            (row_cells self.now.columns.now (seen_cells self.now.sight row.now) ∷ []) }
+    {
         let cells = RowCells::of(self.sight.live, row, self.sight.view);
-        self.push_cells(writer, &cells)
+        self.push_cells(writer, SeenRow::Many(&cells))
     }
 
     /// Adds the line of a row's cells.
-    fn push_cells(&self, writer: &mut Writer, cells: &RowCells<'_, '_>) -> Result<(), WriteErr>
+    fn push_cells(&self, writer: &mut Writer, cells: SeenRow<'_, '_>) -> Result<(), WriteErr>
         requires { 0 < length self.now.columns.now }
         ensures lines { OnOk result (HasLines writer.old writer.new
-            (row_cells self.now.columns.now
-            (cell_of cells.now.state cells.now.view cells.now.row) ∷ [])) }
+            (row_cells self.now.columns.now (values_of cells.entry) ∷ [])) }
         ensures large { result ≡ Err TooLarge → IsTooLarge writer.old
-            (row_cells self.now.columns.now
-            (cell_of cells.now.state cells.now.view cells.now.row) ∷ []) }
+            (row_cells self.now.columns.now (values_of cells.entry) ∷ []) }
     {
         for column in self.columns {
             self.push_cell(writer, cells, column)?;
@@ -244,16 +263,16 @@ impl Page<'_> {
     fn push_cell(
         &self,
         writer: &mut Writer,
-        cells: &RowCells<'_, '_>,
+        cells: SeenRow<'_, '_>,
         shown: &ShownColumn,
     ) -> Result<(), WriteErr>
         ensures ok { OnOk result (writer.new
             ≡ with_cell writer.old
-            (cell_of cells.now.state cells.now.view cells.now.row shown.now)) }
+            (values_of cells.entry shown.now)) }
         ensures cell { OnOk result (AddsCell writer.old writer.new
-            (cell_of cells.now.state cells.now.view cells.now.row shown.now)) }
+            (values_of cells.entry shown.now)) }
         ensures large { result ≡ Err TooLarge → IsTooLargeWith writer.old
-            (cell_of cells.now.state cells.now.view cells.now.row shown.now) }
+            (values_of cells.entry shown.now) }
     {
         let column = shown.column();
         match shown.kind() {
@@ -274,15 +293,15 @@ impl Page<'_> {
     fn push_any(
         &self,
         writer: &mut Writer,
-        cells: &RowCells<'_, '_>,
+        cells: SeenRow<'_, '_>,
         column: Col,
     ) -> Result<(), WriteErr>
         ensures ok { OnOk result (writer.new
-            ≡ with_cell writer.old (cell_of cells.now.state cells.now.view cells.now.row column)) }
+            ≡ with_cell writer.old (values_of cells.entry column)) }
         ensures cell { OnOk result (AddsCell writer.old writer.new
-            (cell_of cells.now.state cells.now.view cells.now.row column)) }
+            (values_of cells.entry column)) }
         ensures large { result ≡ Err TooLarge → IsTooLargeWith writer.old
-            (cell_of cells.now.state cells.now.view cells.now.row column) }
+            (values_of cells.entry column) }
     {
         let value = cells.value(self.alloc, column)?;
         writer.cell(&value)

@@ -5,4 +5,3 @@ pub mod Micros
 pub mod Object
 pub mod Sound
 pub mod Named
-pub mod Text

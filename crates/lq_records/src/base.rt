@@ -238,7 +238,6 @@ impl Default for Rules {
 
 /// The objects of a monitoring core, each kind in the order of the object file, and the rules by
 /// which contacts see them. An id is a place in the list of its kind.
-#[derive(Drop)]
 pub struct Base {
     /// At most 10,000.
     pub hosts: MonitoredItems<Host>,
@@ -258,4 +257,21 @@ pub struct Base {
     pub commands: Items<Command>,
     /// What a contact sees of services and groups.
     pub rules: Rules,
+}
+
+// Written by hand: where one is dropped a proof then meets a call, and not each of the fields.
+impl Drop for Base {
+    fn drop(self) {
+        let Base {
+            hosts: _hosts,
+            services: _services,
+            host_groups: _host_groups,
+            service_groups: _service_groups,
+            contacts: _contacts,
+            contact_groups: _contact_groups,
+            periods: _periods,
+            commands: _commands,
+            rules: _rules,
+        } = self;
+    }
 }

@@ -79,11 +79,21 @@ pub struct ContactIndex<'a> {
 }
 
 /// Hosts or services. Contracts see them as the list of them.
-#[derive(Drop)]
 pub struct MonitoredItems<T: MonitoredObject> {
     items: NamedItems<T>,
     contacts: Gathered,
     owners: Vec<u32>,
+}
+
+// Written by hand: where one is dropped a proof then meets a call, and not each of the fields.
+impl<T: MonitoredObject + Drop> Drop for MonitoredItems<T> {
+    fn drop(self) {
+        let MonitoredItems {
+            items: _items,
+            contacts: _contacts,
+            owners: _owners,
+        } = self;
+    }
 }
 
 impl<T: MonitoredObject> Model for MonitoredItems<T> {

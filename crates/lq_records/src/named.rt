@@ -31,11 +31,20 @@ pub trait NamedObject {
 const MOST_ITEMS: usize = 0xFFFF_FFFF;
 
 /// A list whose items are found by their names. Contracts see it as the list of its items.
-#[derive(Drop)]
 pub struct NamedItems<T: NamedObject> {
     items: Vec<T>,
     /// The first place of each name.
     index: IndexMap<NameKey, u32>,
+}
+
+// Written by hand: where one is dropped a proof then meets a call, and not each of the fields.
+impl<T: NamedObject + Drop> Drop for NamedItems<T> {
+    fn drop(self) {
+        let NamedItems {
+            items: _items,
+            index: _index,
+        } = self;
+    }
 }
 
 impl<T: NamedObject> Model for NamedItems<T> {

@@ -1,6 +1,6 @@
-ghost use Rattle.std.specs.Prelude.{◌≡◌, IfOk, IfSome, [], string_bytes};
+ghost use Rattle.std.specs.Prelude.{◌≡◌, IfOk, IfSome, [], drop, string_bytes};
 ghost use Rattle.std.specs.Arc.{arc_str_bytes};
-ghost use Rattle.lq_records.specs.Text.{IsKept, bytes_of};
+ghost use Rattle.std.specs.Str.{IsCharBoundary};
 
 use crate::Memory;
 use std::alloc::{AllocError, Global};
@@ -16,34 +16,35 @@ use std::sync::ArcStr;
 /// The clones of a text share its bytes, and so do its ends, so that a text of which the data has
 /// many is held once.
 pub struct Text {
-    kept: Kept,
+    /// Memory that clones share. The empty text has none.
+    whole: Option<ArcStr>,
+    /// How many bytes of that memory stand before the text.
+    from: u32,
 }
 
 // Written by hand: where one is dropped a proof then meets a call, and not each of the forms.
 impl Drop for Text {
     fn drop(self) {
-        let Text { kept: _kept } = self;
+        let Text {
+            whole: _whole,
+            from: _from,
+        } = self;
     }
 }
 
-/// How the bytes of a text are kept.
-#[derive(Drop)]
-pub(crate) enum Kept {
-    /// The empty text has none, and takes no memory.
-    Empty,
-    /// In memory that clones share, from a byte of it to its end.
-    Shared { from: u32, whole: ArcStr },
-}
-
 impl Model for Text {
-    ghost use Rattle.lq_records.specs.Text.{IsKept, bytes_of};
-    ghost use Rattle.std.specs.Prelude.{List, ℕ};
+    ghost use Rattle.std.specs.Arc.{arc_str_bytes};
+    ghost use Rattle.std.specs.Option.{option_map_or};
+    ghost use Rattle.std.specs.Prelude.{IfSome, List, [], drop, ℕ};
+    ghost use Rattle.std.specs.Str.{IsCharBoundary};
 
     ghost Value = { List ℕ };
 
-    ghost view = { λ text. bytes_of text.kept };
+    ghost view = { λ text.
+        option_map_or (λ whole. drop text.from (arc_str_bytes whole)) text.whole [] };
 
-    ghost invariant = { λ text. IsKept text.kept };
+    ghost invariant = { λ text.
+        IfSome text.whole (λ whole. IsCharBoundary (arc_str_bytes whole) text.from) };
 }
 
 /// The most bytes that may stand before an end.
@@ -54,7 +55,10 @@ impl Text {
     pub fn empty() -> Self
         ensures { result ≡ [] }
     {
-        Text { kept: Kept::Empty }
+        Text {
+            whole: None,
+            from: 0,
+        }
     }
 
     /// A copy of a text. The only error is that memory runs out.
@@ -81,7 +85,8 @@ impl Text {
         // Tells the proof that the bytes are UTF-8, so that a character begins at the front.
         let _ = whole.as_str();
         Text {
-            kept: Kept::Shared { from: 0, whole },
+            whole: Some(whole),
+            from: 0,
         }
     }
 
@@ -90,46 +95,42 @@ impl Text {
     pub fn with_end(&self, alloc: Global, end: &str) -> Result<Self, Memory>
         ensures { IfOk result (λ text. text ≡ end.now) }
     {
-        if let Some(kept) = self.kept.of_end(end)? {
-            return Ok(Text { kept });
+        let Some(whole) = &self.whole else {
+            return Text::new(alloc, end);
+        };
+        match end_at(whole.as_str(), end) {
+            Some(from) => Ok(Text {
+                whole: Some(whole.clone()?),
+                from,
+            }),
+            None => Text::new(alloc, end),
         }
-        Text::new(alloc, end)
     }
 
     /// The text as a string slice.
     pub fn as_str(&self) -> &str
         ensures { result.now ≡ self.now }
     {
-        match &self.kept {
-            Kept::Empty => "",
-            Kept::Shared { from, whole } => &whole.as_str()[*from as usize..],
+        match &self.whole {
+            Some(whole) => &whole.as_str()[self.from as usize..],
+            None => "",
         }
     }
 }
 
-impl Kept {
-    /// The bytes of an end of the whole text. None where they aren't its end, or are none. The only
-    /// error is that memory runs out.
-    fn of_end(&self, end: &str) -> Result<Option<Kept>, Memory>
-        ensures { IfOk result
-            (λ found. IfSome found (λ kept. IsKept kept × (bytes_of kept ≡ end.now))) }
-    {
-        let Kept::Shared { whole, .. } = self else {
-            return Ok(None);
-        };
-        let text = whole.as_str();
-        if end.is_empty() || end.len() > text.len() {
-            return Ok(None);
-        }
-        let from = text.len() - end.len();
-        if from > LONGEST || !text.is_char_boundary(from) || &text[from..] != end {
-            return Ok(None);
-        }
-        Ok(Some(Kept::Shared {
-            from: from as u32,
-            whole: whole.clone()?,
-        }))
+/// After how many bytes an end of a text begins. None where a text isn't its end, or is empty.
+fn end_at(text: &str, end: &str) -> Option<u32>
+    ensures boundary { IfSome result (λ from. IsCharBoundary text.now from) }
+    ensures end { IfSome result (λ from. drop from text.now ≡ end.now) }
+{
+    if end.is_empty() || end.len() > text.len() {
+        return None;
     }
+    let from = text.len() - end.len();
+    if from > LONGEST || !text.is_char_boundary(from) || &text[from..] != end {
+        return None;
+    }
+    Some(from as u32)
 }
 
 impl Clone for Text {
@@ -139,14 +140,14 @@ impl Clone for Text {
 
     /// The same text, which shares its bytes with this one. The only error is that memory runs out.
     fn clone(&self) -> Result<Self, AllocError> {
-        let kept = match &self.kept {
-            Kept::Empty => Kept::Empty,
-            Kept::Shared { from, whole } => Kept::Shared {
-                from: *from,
-                whole: whole.clone()?,
-            },
+        let whole = match &self.whole {
+            Some(whole) => Some(whole.clone()?),
+            None => None,
         };
-        Ok(Text { kept })
+        Ok(Text {
+            whole,
+            from: self.from,
+        })
     }
 }
 

@@ -1,18 +1,23 @@
-ghost use Rattle.std.specs.Prelude.{◌≡◌, IfOk, IsOk};
-ghost use Rattle.std.specs.List.{slice_get};
+ghost use Rattle.std.specs.Prelude.{◌≡◌, IfOk, IsOk, filter};
+ghost use Rattle.std.specs.List.{filter_map, slice_get};
+ghost use Rattle.lq_auth.specs.Rights.{sees_host, sees_service};
 ghost use Rattle.std.specs.Option.{IfSome, IsSome, option_copied};
 ghost use Rattle.lq_auth.specs.declared.view.View.{View};
+ghost use Rattle.lq_columns.specs.Names.{host_names_of};
 ghost use Rattle.lq_columns.specs.Plain.{HasTexts, IsPlain};
 ghost use Rattle.lq_records.specs.declared.base.Base.{Base};
 ghost use Rattle.lq_schema.specs.Kinds.{contact_group_kind, host_group_kind, service_group_kind};
-ghost use Rattle.lq_schema.specs.Value.{Words, shown};
+ghost use Rattle.lq_schema.specs.Value.{Pairs, Texts, Words, shown};
 ghost use Rattle.lq_tables.specs.Cells.{contact_group_cell, host_group_cell, host_group_part, service_group_cell, service_group_part};
+ghost use Rattle.lq_tables.specs.Parts.{pair_at};
 
 use crate::pairs::pairs_of;
 use lq_auth::View;
 use lq_columns::{Scope, empty_text, empty_value, hosts_value, names_of, services_value};
 use lq_live::Live;
-use lq_records::{Base, ContactGroup, HostGroupId, Memory, ServiceGroupId};
+use lq_records::{
+    Base, ContactGroup, HostGroup, HostGroupId, Memory, ServiceGroup, ServiceGroupId,
+};
 use lq_schema::{ContactGroupColumn, HostGroupColumn, OwnColumn, ServiceGroupColumn, Val};
 use std::alloc::Global;
 
@@ -114,16 +119,27 @@ pub(crate) fn host_group_value<'a>(
         HostGroupColumn::Notes => Ok(Val::Str(group.notes.as_str())),
         HostGroupColumn::NotesUrl => Ok(Val::Str(group.notes_url.as_str())),
         HostGroupColumn::ActionUrl => Ok(Val::Str(group.action_url.as_str())),
-        HostGroupColumn::Members => {
-            let members = view.seen_of(alloc, group.members.as_slice())?;
-            let names = names_of(alloc, live.base(), &members)?;
-            Ok(Val::List(names))
-        }
+        HostGroupColumn::Members => seen_hosts(alloc, live, view, group),
         HostGroupColumn::Hosts(column) => Ok(hosts_value(live, view, id, column)),
         HostGroupColumn::Services(column) => {
             Ok(services_value(alloc, live, view, Scope::HostGroup(id), column))
         }
     }
+}
+
+/// The names of the hosts that a group lists and a query sees.
+fn seen_hosts<'a>(
+    alloc: Global,
+    live: &'a Live,
+    view: &View,
+    group: &HostGroup,
+) -> Result<Val<'a>, Memory>
+    ensures { IfOk result (λ v. shown v ≡ Texts
+        (host_names_of live.now.state.base (filter (sees_host view.now) group.now.members))) }
+{
+    let members = view.seen_of(alloc, group.members.as_slice())?;
+    let names = names_of(alloc, live.base(), &members)?;
+    Ok(Val::List(names))
 }
 
 // ---- groups of services
@@ -179,13 +195,25 @@ pub(crate) fn service_group_value<'a>(
         ServiceGroupColumn::Notes => Ok(Val::Str(group.notes.as_str())),
         ServiceGroupColumn::NotesUrl => Ok(Val::Str(group.notes_url.as_str())),
         ServiceGroupColumn::ActionUrl => Ok(Val::Str(group.action_url.as_str())),
-        ServiceGroupColumn::Members => {
-            let members = view.seen_of(alloc, group.members.as_slice())?;
-            let pairs = pairs_of(alloc, live.base(), &members)?;
-            Ok(Val::Pairs(pairs))
-        }
+        ServiceGroupColumn::Members => seen_services(alloc, live, view, group),
         ServiceGroupColumn::Services(column) => {
             Ok(services_value(alloc, live, view, Scope::ServiceGroup(id), column))
         }
     }
+}
+
+/// The pairs of the services that a group lists and a query sees.
+fn seen_services<'a>(
+    alloc: Global,
+    live: &'a Live,
+    view: &View,
+    group: &ServiceGroup,
+) -> Result<Val<'a>, Memory>
+    ensures { IfOk result (λ v. shown v ≡ Pairs
+        (filter_map (pair_at live.now.state.base) (filter (sees_service view.now)
+        group.now.members))) }
+{
+    let members = view.seen_of(alloc, group.members.as_slice())?;
+    let pairs = pairs_of(alloc, live.base(), &members)?;
+    Ok(Val::Pairs(pairs))
 }

@@ -11,7 +11,7 @@ pub loop-block-preserved : goal.loop-block-preserved
 loop-block-preserved c =
     let names = known c.args.directory.now in
     let base = objects_of names c.args.rules (take c.loop-block.block-index c.args.blocks.now) in
-    c.in_ok-draft.ensures
+    c.in_ok-add_to.ensures
     ∙ ap (λ before. with_object names before c.kind.result c.lines.result.now) c.loop-block.invariant
     ∙ ap (λ kind. with_object names base kind c.lines.result.now) c.kind.ensures
     ∙ ap (with_object names base c.block-item.result.kind) c.lines.ensures

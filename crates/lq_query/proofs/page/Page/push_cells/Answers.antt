@@ -3,14 +3,14 @@ use Rattle.std.proofs.lemmas.List.{take_all}
 use Rattle.lq_output.specs.Writing.{Writing}
 use Rattle.lq_schema.specs.declared.columns.Col.{Col}
 use Rattle.lq_output.specs.declared.error.WriteErr.TheVariants.{TooLarge}
-use Rattle.lq_tables.specs.Cells.{cell_of}
 use Rattle.lq_query.specs.Lines.{HasLines, IsTooLarge}
+use Rattle.lq_query.specs.SeenRow.{values_of}
 use Rattle.lq_query.proofs.RowLemmas.{AreTooLarge-cell, on_ok_both, line_of_cells, line_too_large, split_map}
 use Rattle.lq_query.proofs.page.Page.push_cells.Goals as goal
 
 pub returns-in_err-push_cell-clause-large : goal.returns-in_err-push_cell-clause-large
 returns-in_err-push_cell-clause-large c = λ large.
-    let row = cell_of c.args.cells.now.state c.args.cells.now.view c.args.cells.now.row in
+    let row = values_of c.args.cells in
     let columns = c.args.self.now.columns.now in
     let place = c.loop-column.column-index in
     let failed : c.push_cell.result ≡ Err TooLarge = search (rules, large) in
@@ -20,7 +20,7 @@ returns-in_err-push_cell-clause-large c = λ large.
 
 pub returns-clause-lines : goal.returns-clause-lines
 returns-clause-lines c =
-    let row = cell_of c.args.cells.now.state c.args.cells.now.view c.args.cells.now.row in
+    let row = values_of c.args.cells in
     let all = take_all c.loop-column.column-index c.args.self.now.columns.now (omega (arith, c.loop-column-test.false)) in
     on_ok_both c.end_line.result
     (λ is ends. subst (λ (columns : List Col). HasLines c.args.writer.now c.end_line.new.self (map row columns ∷ [])) all
