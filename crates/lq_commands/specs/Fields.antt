@@ -4,7 +4,7 @@ use Rattle.std.specs.Char.{is_ascii_digit}
 use Rattle.std.specs.List.{after_first, before_first, list_all, position_or_len}
 use Rattle.std.specs.Option.{option_and_then, option_map}
 use Rattle.lq_text.specs.Numbers.{number_of}
-use Rattle.lq_records.specs.Named.{host_named, service_on}
+use Rattle.lq_records.specs.Named.{host_named, service_named}
 use Rattle.lq_records.specs.declared.base.Base.{Base}
 use Rattle.lq_records.specs.declared.ids.HostId.{HostId}
 use Rattle.lq_records.specs.declared.ids.ServiceId.{ServiceId}
@@ -67,14 +67,8 @@ second_in fields = option_and_then second (field fields)
 unfoldable pub host_in : Fields → Option HostId
 host_in fields = option_and_then (host_named fields.base.hosts) (field fields)
 
--- the service that has a description on the host that has a name
-abbrev pub service_named : Base → List ℕ → List ℕ → Option ServiceId
-service_named base host description =
-    option_and_then (λ host. service_on base.services host description)
-    (host_named base.hosts host)
-
 abbrev pub service_of_two : Base → Option (List ℕ) → Option (List ℕ) → Option ServiceId
-service_of_two base (Some host) (Some description) = service_named base host description
+service_of_two base (Some host) (Some description) = service_named base.services host description
 service_of_two base _ _ = None
 
 -- a service takes two fields: its host's name and its description

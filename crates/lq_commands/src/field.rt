@@ -1,7 +1,7 @@
 ghost use Rattle.std.specs.Prelude.{◌≡◌, [], IfOk, OnOk};
 ghost use Rattle.std.specs.List.{before_first};
 ghost use Rattle.std.specs.Option.{option_copied, unwrap_or};
-ghost use Rattle.lq_commands.specs.Fields.{after, after_semicolon, all_fields, field, host_in, is_semicolon, later, number, number_in, second, second_in, service_in, service_named};
+ghost use Rattle.lq_commands.specs.Fields.{after, after_semicolon, all_fields, field, host_in, is_semicolon, later, number, number_in, second, second_in, service_in};
 ghost use Rattle.lq_commands.specs.Reading.{Gives};
 
 use lq_records::{Base, HostId, Memory, ServiceId, Text};
@@ -142,16 +142,11 @@ impl<'a> Fields<'a> {
     {
         let host = self.next().ok_or(FieldErr::Faulty)?;
         let description = self.next().ok_or(FieldErr::Faulty)?;
-        service_named(self.base, host, description).ok_or(FieldErr::Faulty)
+        self.base
+            .services
+            .find(host, description)
+            .ok_or(FieldErr::Faulty)
     }
-}
-
-/// The service that has a description on the host that has a name.
-fn service_named(base: &Base, host: &str, description: &str) -> Option<ServiceId>
-    ensures { result ≡ service_named base.now host.now description.now }
-{
-    let host = base.hosts.find(host)?;
-    base.services.find(host, description)
 }
 
 /// A text up to its first `;`, and what follows that `;`, None where there is none.

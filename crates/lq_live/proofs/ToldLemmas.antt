@@ -20,7 +20,6 @@ use Rattle.lq_log.specs.Told.{object_of, told_by}
 use Rattle.lq_log.specs.declared.telling.Told.TheVariants as telling
 use Rattle.lq_live.specs.LastTold.{AreTold, hosts_with, periods_with, place_of_name, services_with}
 use Rattle.lq_live.specs.declared.last_told.LastTold.{LastTold}
-use Rattle.lq_live.specs.declared.last_told.PeriodName.{PeriodName}
 
 -- ---- one more line
 
@@ -127,16 +126,16 @@ module _ (old new : LastTold) (base : Base) (entry : LogEntry) (on : Bool) (log 
         ∙ told_where (flapping_told base (object.Service id)) false log entry test on (rw (of, tells) refl);
     periods = λ name place found within.
         ap (λ list. slice_index_or list place false) periods
-        ∙ are.periods name place (ap (λ shared. place_of_name (arc_value shared) name) (sym names) ∙ found) (subst (λ (list : List Bool). place < length list) periods within)
+        ∙ are.periods name place ((λ i. place_of_name (arc_value (sym names i)).keys name) ∙ found) (subst (λ (list : List Bool). place < length list) periods within)
         ∙ told_none (period_told name) true log entry (either_none (not (length name == 0) && bytes_eq name (period_of_kind entry.kind)) (period_in (told_by entry)) (ap period_in tells));
   }
 
 -- ---- time periods
 
 -- the name at a place is the one that was found there
-found_name : (names : List PeriodName) (name : List ℕ) (place : ℕ) → place_of_name names name ≡ Some place → (slice_index_or names place (record { name = [] })).name ≡ name
+found_name : (names : List (List ℕ)) (name : List ℕ) (place : ℕ) → place_of_name names name ≡ Some place → slice_index_or names place [] ≡ name
 found_name names name place found =
-    (bytes_eq-Decides _ _).0 (position-Some (λ (period : PeriodName). bytes_eq period.name name) names place (record { name = [] }) found).1
+    sym ((bytes_eq-Decides name (slice_index_or names place [])).0 (position-Some (bytes_eq name) names place [] found).1)
 
 some_same : (a b : ℕ) → ◌≡◌ {A = Option ℕ} (Some a) (Some b) → a ≡ b
 some_same a b same = ap (λ (found : Option ℕ). unwrap_or found 0) same
@@ -149,16 +148,16 @@ and_no true = refl
 and_no false = refl
 
 -- the mark at a place where another one may be set
-other_mark : (names : List PeriodName) (marks : List Bool) (name other : List ℕ) (on : Bool) (place : ℕ) (there : Option ℕ) → place_of_name names name ≡ Some place
+other_mark : (names : List (List ℕ)) (marks : List Bool) (name other : List ℕ) (on : Bool) (place : ℕ) (there : Option ℕ) → place_of_name names name ≡ Some place
     → place_of_name names other ≡ there → bytes_eq name other ≡ false
     → slice_index_or (option_map_or (λ k. slice_set marks k on) there marks) place false ≡ slice_index_or marks place false
 other_mark names marks name other on place None found sought differ = refl
 other_mark names marks name other on place (Some k) found sought differ =
     get_or-set_other marks k place on false
     (λ same. true≢false (sym ((bytes_eq-Decides name other).1
-    (sym (found_name names name place found) ∙ ap (λ at. (slice_index_or names at (record { name = [] })).name) same ∙ found_name names other k sought)) ∙ differ))
+    (sym (found_name names name place found) ∙ ap (λ at. slice_index_or names at []) same ∙ found_name names other k sought)) ∙ differ))
 
-named_mark : (names : List PeriodName) (marks : List Bool) (name : List ℕ) (first : ℕ) (rest : List ℕ) (on is : Bool) (place : ℕ) → bytes_eq name (first ∷ rest) ≡ is
+named_mark : (names : List (List ℕ)) (marks : List Bool) (name : List ℕ) (first : ℕ) (rest : List ℕ) (on is : Bool) (place : ℕ) → bytes_eq name (first ∷ rest) ≡ is
     → place_of_name names name ≡ Some place → place < length marks
     → slice_index_or (periods_with names (first ∷ rest) on marks) place false ≡ (if not (length name == 0) && is then on else slice_index_or marks place false)
 named_mark names marks name first rest on true place is found within =
@@ -174,7 +173,7 @@ named_mark names marks name first rest on false place is found within =
     ∙ other_mark names marks name (first ∷ rest) on place (place_of_name names (first ∷ rest)) found refl is
     ∙ ap (λ test. if test then on else slice_index_or marks place false) (sym (and_no (not (length name == 0))))
 
-period_mark : (names : List PeriodName) (marks : List Bool) (name other : List ℕ) (on : Bool) (place : ℕ) → place_of_name names name ≡ Some place → place < length marks
+period_mark : (names : List (List ℕ)) (marks : List Bool) (name other : List ℕ) (on : Bool) (place : ℕ) → place_of_name names name ≡ Some place → place < length marks
     → slice_index_or (periods_with names other on marks) place false ≡ (if not (length name == 0) && bytes_eq name other then on else slice_index_or marks place false)
 period_mark names marks [] [] on place found within = refl
 period_mark names marks (first ∷ rest) [] on place found within =
@@ -189,7 +188,7 @@ periods_long marks (first ∷ rest) on (Some k) = ap (λ test. length (if test t
 
 module _ (old new : LastTold) (base : Base) (entry : LogEntry) (on : Bool) (log : List LogEntry) (are : AreTold old base log) where
   pub told_period : told_by entry ≡ Some (telling.Period on) → new.hosts.items ≡ old.hosts.items → new.services.items ≡ old.services.items
-      → new.names ≡ old.names → new.periods.items ≡ periods_with (arc_value old.names) (period_of_kind entry.kind) on old.periods.items → AreTold new base (log ++ entry ∷ [])
+      → new.names ≡ old.names → new.periods.items ≡ periods_with (arc_value old.names).keys (period_of_kind entry.kind) on old.periods.items → AreTold new base (log ++ entry ∷ [])
   told_period tells hosts services names periods = record {
     hosts = λ id within.
         ap (λ list. slice_index_or list id.0 false) hosts
@@ -201,12 +200,12 @@ module _ (old new : LastTold) (base : Base) (entry : LogEntry) (on : Bool) (log 
         ∙ told_none (flapping_told base (object.Service id)) false log entry (either_none (option_map_or (is_same_object (object.Service id)) (object_of base entry) false) (flapping_in (told_by entry)) (ap flapping_in tells));
     periods = λ name place found within.
         let other : List ℕ = period_of_kind entry.kind in
-        let there : place_of_name (arc_value old.names) name ≡ Some place = ap (λ shared. place_of_name (arc_value shared) name) (sym names) ∙ found in
+        let there : place_of_name (arc_value old.names).keys name ≡ Some place = (λ i. place_of_name (arc_value (sym names i)).keys name) ∙ found in
         let inside : place < length old.periods.items =
-        omega (arith, within, ap length periods, periods_long old.periods.items other on (place_of_name (arc_value old.names) other)) in
+        omega (arith, within, ap length periods, periods_long old.periods.items other on (place_of_name (arc_value old.names).keys other)) in
         let test : Bool = not (length name == 0) && bytes_eq name other in
         ap (λ list. slice_index_or list place false) periods
-        ∙ period_mark (arc_value old.names) old.periods.items name other on place there inside
+        ∙ period_mark (arc_value old.names).keys old.periods.items name other on place there inside
         ∙ ap (λ known. if test then on else known) (are.periods name place there inside)
         ∙ told_where (period_told name) true log entry test on (rw tells refl);
   }

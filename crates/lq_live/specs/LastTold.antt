@@ -11,11 +11,10 @@ use Rattle.lq_records.specs.declared.object.Object.TheVariants as object
 use Rattle.lq_events.specs.declared.log_entry.LogEntry.{LogEntry}
 use Rattle.lq_log.specs.LastTold.{is_flapping, is_period_on}
 use Rattle.lq_live.specs.declared.last_told.LastTold.{LastTold}
-use Rattle.lq_live.specs.declared.last_told.PeriodName.{PeriodName}
 
 -- the place of a name, the first where it stands
-abbrev pub place_of_name : List PeriodName → List ℕ → Option ℕ
-place_of_name names name = position (λ period. bytes_eq period.name name) names
+abbrev pub place_of_name : List (List ℕ) → List ℕ → Option ℕ
+place_of_name names name = position (bytes_eq name) names
 
 -- each mark is what the log last told, of a host, of a service, and of a time period by its name
 pub record AreTold (told : LastTold) (base : Base) (log : List LogEntry) : Type 0 where
@@ -24,7 +23,7 @@ pub record AreTold (told : LastTold) (base : Base) (log : List LogEntry) : Type 
   pub services : (id : ServiceId) → id.0 < length told.services.items
       → slice_index_or told.services.items id.0 false ≡ is_flapping base log (object.Service id)
   pub periods : (name : List ℕ) (place : ℕ)
-      → place_of_name (arc_value told.names) name ≡ Some place → place < length told.periods.items
+      → place_of_name (arc_value told.names).keys name ≡ Some place → place < length told.periods.items
       → slice_index_or told.periods.items place false ≡ is_period_on log name
 
 -- the marks of hosts, and those of services, with that of an object set
@@ -37,7 +36,7 @@ services_with (Some (object.Service id)) on marks = slice_set marks id.0 on
 services_with _ on marks = marks
 
 -- the marks of time periods with that of a name set
-abbrev pub periods_with : List PeriodName → List ℕ → Bool → List Bool → List Bool
+abbrev pub periods_with : List (List ℕ) → List ℕ → Bool → List Bool → List Bool
 periods_with names name on marks =
     if length name == 0 then marks
     else option_map_or (λ place. slice_set marks place on) (place_of_name names name) marks

@@ -8,33 +8,12 @@ ghost use Rattle.lq_records.specs.declared.base.Base.{Base};
 ghost use Rattle.lq_log.specs.LastTold.{is_flapping, is_period_on};
 ghost use Rattle.lq_live.specs.LastTold.{AreTold, hosts_with, periods_with, services_with};
 
+use indexmap::IndexSet;
 use lq_events::LogEntry;
 use lq_log::{Told, is_flapping, is_period_on, object_of, period_of, told_by};
-use lq_records::{
-    Base, HostId, Memory, MonitoredObject, NamedItems, NamedObject, Object, ServiceId, Text,
-};
-use std::alloc::Global;
+use lq_records::{Base, HostId, Memory, MonitoredObject, Object, ServiceId, Text};
+use std::alloc::{AllocError, Global};
 use std::sync::Arc;
-
-/// The name of a time period.
-#[derive(Drop)]
-pub(crate) struct PeriodName {
-    name: Text,
-}
-
-impl NamedObject for PeriodName {
-    ghost owner_of = { λ _. 0 };
-
-    ghost name_of = { λ period. period.name };
-
-    fn owner(&self) -> u32 {
-        0
-    }
-
-    fn name(&self) -> &Text {
-        &self.name
-    }
-}
 
 /// For each host and each service whether it is flapping, and for names of time periods whether
 /// these are on.
@@ -42,7 +21,7 @@ pub(crate) struct LastTold {
     hosts: Vec<bool>,
     services: Vec<bool>,
     /// Names in the base, of its time periods and at its objects. Shared with the copies.
-    names: Arc<NamedItems<PeriodName>, Global>,
+    names: Arc<IndexSet<Text>, Global>,
     /// For each name, whether the period is on.
     periods: Vec<bool>,
 }
@@ -65,7 +44,7 @@ impl LastTold {
         Ok(LastTold {
             hosts: Vec::new(alloc),
             services: Vec::new(alloc),
-            names: Arc::new(alloc, NamedItems::from_vec(alloc, Vec::new(alloc))?)?,
+            names: Arc::new(alloc, IndexSet::new(alloc))?,
             periods: Vec::new(alloc),
         })
     }
@@ -117,13 +96,13 @@ impl LastTold {
         ensures services { self.new.services.items ≡ self.old.services.items }
         ensures names { self.new.names ≡ self.old.names }
         ensures periods { self.new.periods.items
-            ≡ periods_with (arc_value self.old.names) name.now on self.old.periods.items }
+            ≡ periods_with (arc_value self.old.names).keys name.now on self.old.periods.items }
     {
         if name.is_empty() {
             return;
         }
-        if let Some(place) = self.names.place_of(0, name) {
-            set_mark(&mut self.periods, place as usize, on);
+        if let Some(place) = self.names.get_index_of(name) {
+            set_mark(&mut self.periods, place, on);
         }
     }
 
@@ -147,10 +126,10 @@ impl LastTold {
         ensures { (base : Base) → AreTold self.now base log.now
             → result ≡ is_period_on log.now name.now }
     {
-        let Some(place) = self.names.place_of(0, name) else {
+        let Some(place) = self.names.get_index_of(name) else {
             return is_period_on(log, name);
         };
-        match self.periods.get(place as usize) {
+        match self.periods.get(place) {
             Some(mark) => *mark,
             None => is_period_on(log, name),
         }
@@ -170,19 +149,19 @@ impl LastTold {
     }
 }
 
-/// The names of the time periods of a base, and of those that its objects name, most of them once.
-fn period_names(alloc: Global, base: &Base) -> Result<NamedItems<PeriodName>, Memory> {
-    let mut names = Vec::new(alloc);
+/// The names of the time periods of a base, and of those that its objects name.
+fn period_names(alloc: Global, base: &Base) -> Result<IndexSet<Text>, Memory> {
+    let mut names = IndexSet::new(alloc);
     for period in base.periods.as_slice() {
         push_name(&mut names, &period.timeperiod_name)?;
     }
     push_names_at(&mut names, base.hosts.as_slice())?;
     push_names_at(&mut names, base.services.as_slice())?;
-    NamedItems::from_vec(alloc, names)
+    Ok(names)
 }
 
 fn push_names_at<T: MonitoredObject>(
-    names: &mut Vec<PeriodName>,
+    names: &mut IndexSet<Text>,
     items: &[T],
 ) -> Result<(), Memory> {
     for item in items {
@@ -191,18 +170,13 @@ fn push_names_at<T: MonitoredObject>(
     Ok(())
 }
 
-/// How many names are compared with the next one.
-const LAST_NAMES: usize = 16;
-
-/// Adds a name, unless it is one of the last ones.
-fn push_name(names: &mut Vec<PeriodName>, name: &Text) -> Result<(), Memory> {
-    let last = names.len().saturating_sub(LAST_NAMES);
-    if names[last..].iter().any(|known| known.name == *name) {
-        return Ok(());
+/// Adds a name, unless it is there.
+fn push_name(names: &mut IndexSet<Text>, name: &Text) -> Result<(), Memory> {
+    if !names.contains(name) {
+        let Ok(_) = names.insert(name.clone()?) else {
+            return Err(AllocError);
+        };
     }
-    names.push(PeriodName {
-        name: name.clone()?,
-    })?;
     Ok(())
 }
 

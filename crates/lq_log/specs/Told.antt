@@ -1,10 +1,9 @@
 -- What a line tells, and which object it is about.
 use Rattle.std.specs.Prelude.{ℕ, pos, Bool, Option, Some, None, List, bytes_eq, codes}
-use Rattle.std.specs.Option.{option_and_then, option_map}
+use Rattle.std.specs.Option.{option_map}
 use Rattle.std.specs.Ordering.{int_eq}
-use Rattle.lq_records.specs.Named.{host_named, service_on}
+use Rattle.lq_records.specs.Named.{host_named, service_named}
 use Rattle.lq_records.specs.declared.base.Base.{Base}
-use Rattle.lq_records.specs.declared.ids.ServiceId.{ServiceId}
 use Rattle.lq_records.specs.declared.object.Object.{Object}
 use Rattle.lq_records.specs.declared.object.Object.TheVariants as object
 use Rattle.lq_records.specs.declared.object.ObjectKind.{ObjectKind}
@@ -64,17 +63,12 @@ subject_of kind.ServiceNotification = Some object_kind.Service
 subject_of kind.PassiveServiceCheck = Some object_kind.Service
 subject_of _ = None
 
--- the service of a base by the names of its host and its own
-abbrev pub service_in : Base → List ℕ → List ℕ → Option ServiceId
-service_in base host description =
-    option_and_then (λ id. service_on base.services id description) (host_named base.hosts host)
-
 abbrev pub object_named : Base → LogEntry → Option ObjectKind → Option Object
 object_named base entry None = None
 object_named base entry (Some object_kind.Host) =
     option_map object.Host (host_named base.hosts entry.host)
 object_named base entry (Some object_kind.Service) =
-    option_map object.Service (service_in base entry.host entry.service)
+    option_map object.Service (service_named base.services entry.host entry.service)
 
 -- The object of a base that a line is about: the one that its form names, where the base has it. A
 -- line of an external command is about none.

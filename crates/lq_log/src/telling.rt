@@ -1,9 +1,9 @@
 ghost use Rattle.std.specs.Prelude.{◌≡◌, ◌<◌, IfSome, length};
 ghost use Rattle.lq_log.specs.LastTold.{flapping_told, is_flapping, is_period_on, period_of_kind, period_told};
-ghost use Rattle.lq_log.specs.Told.{has_started, is_hard, object_named, object_of, service_in, subject_of, told_by};
+ghost use Rattle.lq_log.specs.Told.{has_started, is_hard, object_named, object_of, subject_of, told_by};
 
 use lq_events::{Kind, LogEntry};
-use lq_records::{Base, Object, ObjectKind, ServiceId};
+use lq_records::{Base, Object, ObjectKind};
 
 /// What a log line tells of the object or the time period that it is about.
 #[derive(Clone, Copy)]
@@ -64,8 +64,8 @@ pub fn object_of(base: &Base, entry: &LogEntry) -> Option<Object>
     match subject_of(&entry.kind)? {
         ObjectKind::Host => Some(Object::Host(base.hosts.find(host)?)),
         ObjectKind::Service => {
-            let service = service_in(base, host, entry.service.as_str())?;
-            Some(Object::Service(service))
+            let description = entry.service.as_str();
+            Some(Object::Service(base.services.find(host, description)?))
         }
     }
 }
@@ -145,14 +145,6 @@ fn subject_of(kind: &Kind) -> Option<ObjectKind>
         | Kind::PassiveServiceCheck => Some(ObjectKind::Service),
         Kind::ExternalCommand | Kind::TimeperiodTransition { .. } | Kind::Other => None,
     }
-}
-
-/// The service of a base by the names of its host and its own.
-fn service_in(base: &Base, host: &str, description: &str) -> Option<ServiceId>
-    ensures { result ≡ service_in base.now host.now description.now }
-{
-    let host = base.hosts.find(host)?;
-    base.services.find(host, description)
 }
 
 fn is_hard(word: &str) -> bool

@@ -1,9 +1,12 @@
 //! Texts, lists and names, and what is held and loaded in memory.
 
+ghost use Rattle.std.specs.Prelude.{◌≡◌, ◌++◌, ◌∷◌, [], OnOk};
+ghost use Rattle.lq_names.specs.Names.{single};
+
 use crate::scarce::{Call, assert_late, is_late, successes};
 use lq_names::{Name, NameIndex};
 use lq_outside::{Files, LoadErr, MemFiles, MemSink, MemSource, StdFiles, SteadySource};
-use lq_records::{Contact, Items, NamedItems, Text, clean_text};
+use lq_records::{Host, Items, MonitoredItems, NamedItems, ObjectFields, Text, clean_text};
 use std::alloc::{AllocError, Global};
 use std::process::Abort;
 use std::test::Fail;
@@ -135,36 +138,68 @@ fn names_that_find_no_memory_stay_as_they_were(rt: HostRuntime) -> Result<(), Fa
     Ok(())
 }
 
-/// A contact whose name is a number.
-fn contact(alloc: Global, number: usize) -> Result<Contact, AllocError> {
-    Ok(Contact {
-        contact_name: Text::from_string(number.to_string(alloc)?)?,
-        alias: Text::empty(),
-        email: Text::empty(),
-        pager: Text::empty(),
-        host_notification_period: Text::empty(),
-        service_notification_period: Text::empty(),
-    })
+/// What a host has that says nothing of itself.
+fn no_fields(alloc: Global) -> ObjectFields {
+    ObjectFields {
+        display_name: Text::empty(),
+        check_command: Text::empty(),
+        check_period: Text::empty(),
+        notification_period: Text::empty(),
+        max_check_attempts: 1,
+        notifications_enabled: 1,
+        contacts: Items::new(alloc),
+        contact_groups: Items::new(alloc),
+        notes: Text::empty(),
+        notes_url: Text::empty(),
+        action_url: Text::empty(),
+        icon_image: Text::empty(),
+        custom_variables: Items::new(alloc),
+    }
 }
 
-/// A thousand contacts are found by their names.
+/// Adds a name that isn't there.
+fn push_name(names: &mut NameIndex, name: &Text) -> Result<(), AllocError>
+    ensures { OnOk result (names.new ≡ names.old ++ single name.now ∷ []) }
+{
+    let name = Name::single(name.clone()?);
+    if names.contains(&name) {
+        return Err(AllocError);
+    }
+    names.push(name)
+}
+
+/// A thousand hosts whose names are numbers, and the names that are handed on to them.
+fn numbered_hosts(alloc: Global) -> Result<NamedItems<Host>, AllocError> {
+    let mut names = NameIndex::new(alloc);
+    let mut hosts = Vec::new(alloc);
+    for number in 0..1_000usize {
+        let host_name = Text::from_string(number.to_string(alloc)?)?;
+        push_name(&mut names, &host_name)?;
+        hosts.push(Host {
+            host_name,
+            alias: Text::empty(),
+            address: Text::empty(),
+            parents: Items::new(alloc),
+            fields: no_fields(alloc),
+        })?;
+    }
+    Ok(NamedItems::new(hosts, names.into_names()))
+}
+
+/// A thousand hosts are found by their names.
 #[derive(Clone, Copy)]
 struct Named;
 
 impl Call for Named {
     fn make(&mut self, alloc: Global) -> Result<bool, AllocError> {
-        let mut contacts = Vec::new(alloc);
-        for number in 0..1_000usize {
-            contacts.push(contact(alloc, number)?)?;
-        }
-        let contacts = NamedItems::from_vec(alloc, contacts)?;
-        Ok(contacts.find("999").is_some_and(|id| id.0 == 999) && contacts.find("x").is_none())
+        let hosts = MonitoredItems::new(alloc, numbered_hosts(alloc)?)?;
+        Ok(hosts.find("999").is_some_and(|id| id.0 == 999) && hosts.find("x").is_none())
     }
 }
 
 #[test]
-fn lists_by_name_want_memory_for_their_order(rt: HostRuntime) -> Result<(), Fail> {
-    assert_late(&rt, "NamedItems::from_vec", 24, &mut Named)
+fn lists_by_name_want_memory_for_their_contacts(rt: HostRuntime) -> Result<(), Fail> {
+    assert_late(&rt, "MonitoredItems::new", 24, &mut Named)
 }
 
 /// Each form in memory is made of what it is handed.

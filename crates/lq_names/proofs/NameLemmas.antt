@@ -6,7 +6,7 @@ use Rattle.std.proofs.lemmas.Bool.{cond-false, cond-true, cases_lt, le-ltb, lt-l
 use Rattle.std.proofs.lemmas.List.{get_or_default, map-append}
 use Rattle.std.proofs.lemmas.List.Sums.{fails_before_first, passes_at_first}
 use Rattle.std.proofs.lemmas.List.Folds.{list_any-from_Any, list_any_none}
-use Rattle.lq_names.specs.Names.{Name, is_same, place_of}
+use Rattle.lq_names.specs.Names.{Name, is_same, parts_of, place_of}
 
 abbrev pub Key : Type 0
 Key = List ℕ × List ℕ
@@ -83,3 +83,9 @@ added_key keys new key name names view first second absent inserted =
     ∙ map-append key_name keys (key ∷ [])
     ∙ ap (λ all. all ++ key_name key ∷ []) view
     ∙ ap (λ last. names ++ last ∷ []) (name_from key name first second)
+
+-- ---- names handed on
+
+pub parts-of_keys : (keys : List Key) → map parts_of (map key_name keys) ≡ keys
+parts-of_keys [] = refl
+parts-of_keys (key ∷ keys) = ap (λ rest. key ∷ rest) (parts-of_keys keys)

@@ -12,6 +12,10 @@ pub record Name : Type 0 where
 abbrev pub single : List ℕ → Name
 single text = record { first = text; second = [] }
 
+-- both parts
+abbrev pub parts_of : Name → List ℕ × List ℕ
+parts_of name = (name.first, name.second)
+
 abbrev pub is_same : Name → Name → Bool
 is_same a b = bytes_eq a.first b.first && bytes_eq a.second b.second
 

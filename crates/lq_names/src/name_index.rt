@@ -1,6 +1,6 @@
-ghost use Rattle.std.specs.Prelude.{◌≡◌, ◌++◌, ◌∷◌, ◌<◌, [], length, false, None, OnOk, OnErr, IfSome};
+ghost use Rattle.std.specs.Prelude.{◌≡◌, ◌++◌, ◌∷◌, ◌<◌, ◌^◌, [], length, map, false, None, OnOk, OnErr, IfSome};
 ghost use Rattle.std.specs.List.{list_any};
-ghost use Rattle.lq_names.specs.Names.{is_same, place_of};
+ghost use Rattle.lq_names.specs.Names.{is_same, parts_of, place_of};
 
 use crate::name::Name;
 use indexmap::IndexSet;
@@ -87,5 +87,14 @@ impl NameIndex {
             return Err(AllocError);
         };
         Ok(())
+    }
+
+    /// The names in order, each as its two parts. It takes no memory.
+    pub fn into_names(self) -> IndexSet<(Text, Text)>
+        ensures names { result.keys ≡ map parts_of self }
+        ensures few { length result.keys < 2 ^ 32 }
+    {
+        let NameIndex { names } = self;
+        names
     }
 }

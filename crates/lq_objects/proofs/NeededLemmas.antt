@@ -162,6 +162,7 @@ unfolding known_directives
 service-needed known lines =
     λ i. record {
       host = record { 0 = host_place (places-needed known reference.ServiceHost lines i) };
+      host_name = text-needed [] (codes "host_name") refl lines i;
       service_description = text-needed [] (codes "service_description") refl lines i;
       fields = own_fields-needed known (codes "service_description") refl lines i;
     }

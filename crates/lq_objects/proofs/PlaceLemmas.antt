@@ -2,12 +2,12 @@
 use Rattle.std.proofs.Common.{◌≡◌, ◌≢◌, ℕ, ◌<◌, ◌≤◌, Bool, true, false, ◌&&◌, Option, Some, None, List, [], ◌∷◌, map, reverse, length, get_or, refl, sym, ap, ◌∙◌, subst, arith, true≢false}
 use Rattle.std.specs.Prelude.{bytes_eq, codes, find, nat_le, nat_lt, unwrap_or}
 use Rattle.std.specs.Char.{is_ascii_digit}
-use Rattle.std.specs.List.{All, cons_option, filter_map, list_all, list_any}
+use Rattle.std.specs.List.{All, cons_option, filter_map, list_all, list_any, slice_get}
 use Rattle.std.specs.Option.{option_and_then, option_map, option_map_or, option_or}
 use Rattle.std.proofs.lemmas.Bool.{and_from, and_parts, both_ways, cond_both, leb-true, not_from_false, or_from, or_parts}
 use Rattle.std.proofs.lemmas.List.Elements.{All-cons, All-nil}
 use Rattle.std.proofs.lemmas.List.Quantifiers.{position-Some}
-use Rattle.std.proofs.lemmas.Option.{none-some, same_Some}
+use Rattle.std.proofs.lemmas.Option.{none-some, same_Some, slice_get-get_or, slice_get-map}
 use Rattle.std.proofs.lemmas.Slice.Eq.{bytes_eq-Decides}
 use Rattle.lq_text.specs.Numbers.{number_of}
 use Rattle.lq_records.specs.Clean.{cleaned}
@@ -194,6 +194,24 @@ pub host-within : (known : Kind → List Name) (lines : List Line) → HasHost k
 host-within known lines host =
     subst (λ place. place < length (known Host)) (sym host.is)
     (place_of-within (known Host) (single (text_or [] (codes "host_name") lines)) host.place host.found)
+
+-- the name at the place of a name is this name
+name_at-place : (names : List Name) (text : List ℕ) (place : ℕ) → place_of names (single text) ≡ Some place
+    → slice_get (map (λ (name : Name). name.first) names) place ≡ Some text
+name_at-place names text place is =
+    let found = position-Some (is_same (single text)) names place (single text) is in
+    let name : Name = get_or names place (single text) in
+    let here = and_parts (bytes_eq text name.first) _ found.1 in
+    slice_get-map (λ (name : Name). name.first) names place
+    ∙ ap (option_map (λ (name : Name). name.first)) (slice_get-get_or names place (single text) found.0)
+    ∙ ap (λ text. Some text) (sym ((bytes_eq-Decides text name.first).0 here.0))
+
+-- a service's host has the name that the service says
+pub host-named : (known : Kind → List Name) (lines : List Line) → HasHost known lines
+    → slice_get (map (λ (name : Name). name.first) (known Host)) (host_place (places known ServiceHost lines)) ≡ Some (text_or [] (codes "host_name") lines)
+host-named known lines host =
+    ap (slice_get (map (λ (name : Name). name.first) (known Host))) host.is
+    ∙ name_at-place (known Host) (text_or [] (codes "host_name") lines) host.place host.found
 
 -- names at one place are the same
 place_of-same : (names : List Name) (first second : List ℕ) (place : ℕ)

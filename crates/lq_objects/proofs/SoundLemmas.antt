@@ -1,7 +1,7 @@
 -- A base that is read from an object file is sound.
 use Rattle.std.proofs.Common.{◌≡◌, ◌≢◌, ℕ, ◌<◌, ◌≤◌, Bool, false, Option, Some, None, Result, Ok, Err, IfOk, List, [], ◌∷◌, map, length, get_or, refl, sym, ap, ◌∙◌, subst, arith, true≢false}
 use Rattle.std.specs.Prelude.{codes, filter}
-use Rattle.std.specs.List.{All, AllPairs}
+use Rattle.std.specs.List.{All, AllPairs, slice_get}
 use Rattle.std.proofs.lemmas.Bool.{both_ways, and_from, or_parts}
 use Rattle.std.proofs.lemmas.List.{length-map}
 use Rattle.std.proofs.lemmas.List.Elements.{All-map, All-weaker}
@@ -9,6 +9,7 @@ use Rattle.std.proofs.lemmas.Simd.{map-map}
 use Rattle.std.proofs.lemmas.Slice.Eq.{bytes_eq-Decides}
 use Rattle.lq_records.specs.Sound.{AreLimited, AreLinked, AreNamed, AreNames, ArePlaces, AreSoundFields, HasNoSemicolon, IsSound}
 use Rattle.lq_records.specs.declared.base.Base.{Base}
+use Rattle.lq_records.specs.declared.base.Host.{Host}
 use Rattle.lq_records.specs.declared.base.Rules.{Rules}
 use Rattle.lq_records.specs.declared.base.Service.{Service}
 use Rattle.lq_objects.specs.Blocks.{Line, Part, parts_of, telling_lines}
@@ -25,7 +26,7 @@ use Rattle.lq_objects.specs.declared.kind.Kind.TheVariants as kind
 use Rattle.lq_objects.specs.declared.kind.Reference.TheVariants as reference
 use Rattle.lq_objects.proofs.ListLemmas.{All-unmap, AllPairs-by, AllPairs-map, AllPairs-unmap, map-agree, option_or_none}
 use Rattle.lq_objects.proofs.FaultLemmas.{AllFine, AllFine-from_parts, AreFine}
-use Rattle.lq_objects.proofs.PlaceLemmas.{All-known, HasHost, contact_group_ids-places, contact_ids-places, host-found, host-within, host_ids-places, number_or-bounded, service_ids-places, services-differ}
+use Rattle.lq_objects.proofs.PlaceLemmas.{All-known, HasHost, contact_group_ids-places, contact_ids-places, host-found, host-named, host-within, host_ids-places, number_or-bounded, service_ids-places, services-differ}
 
 -- ---- names
 
@@ -176,6 +177,22 @@ module _ (rules : Rules) (blocks : List Block) (fine : AllFine blocks) (none : u
       (All-map (λ service. service.host.0 < length (known kind.Host)) (service_of known) services
       (λ k d within. host-within known (get_or services k d) (with_hosts k d within)))
 
+  -- the names of the hosts, by the names of their blocks
+  host_names : map (λ (name : Name). name.first) (block_names blocks kind.Host) ≡ map (λ (host : Host). host.host_name) (base_of_blocks rules blocks).hosts
+  host_names =
+      let hosts : List (List Line) = lines_of_kind kind.Host blocks in
+      ap (map (λ (name : Name). name.first)) (block_names-lines kind.Host)
+      ∙ map-map (λ (name : Name). name.first) (name_of kind.Host) hosts
+      ∙ sym (map-map (λ (host : Host). host.host_name) (host_of (block_names blocks)) hosts)
+
+  hosts_named : All (λ service. slice_get (map (λ (host : Host). host.host_name) (base_of_blocks rules blocks).hosts) service.host.0 ≡ Some service.host_name) (base_of_blocks rules blocks).services
+  hosts_named =
+      let known : Kind → List Name = block_names blocks in
+      let services : List (List Line) = lines_of_kind kind.Service blocks in
+      subst (λ names. All (λ (service : Service). slice_get names service.host.0 ≡ Some service.host_name) (map (service_of known) services)) host_names
+      (All-map (λ service. slice_get (map (λ (name : Name). name.first) (known kind.Host)) service.host.0 ≡ Some service.host_name) (service_of known) services
+      (λ k d within. host-named known (get_or services k d) (with_hosts k d within)))
+
   are_linked : AreLinked (base_of_blocks rules blocks)
   are_linked =
       let base : Base = base_of_blocks rules blocks in
@@ -189,6 +206,7 @@ module _ (rules : Rules) (blocks : List Block) (fine : AllFine blocks) (none : u
         host_fields = each_of kind.Host (host_of known) (λ host. AreSoundFields base host.fields)
             (λ lines. fields_sound (text_or [] (codes "host_name") lines) lines);
         service_hosts = hosts_within;
+        service_names = hosts_named;
         service_fields = each_of kind.Service (service_of known) (λ service. AreSoundFields base service.fields)
             (λ lines. fields_sound (text_or [] (codes "service_description") lines) lines);
         host_groups = each_of kind.HostGroup (host_group_of known) (λ group. ArePlaces (length base.hosts) (map (λ id. id.0) group.members))

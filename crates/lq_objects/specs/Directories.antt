@@ -1,6 +1,7 @@
 -- The names of the objects so far, by kind.
-use Rattle.std.specs.Prelude.{List, [], ◌∷◌, ◌++◌}
-use Rattle.lq_names.specs.Names.{Name}
+use Rattle.std.specs.Prelude.{◌≡◌, List, [], ◌∷◌, ◌++◌, map}
+use Rattle.lq_names.specs.Names.{Name, parts_of}
+use Rattle.lq_records.specs.declared.base.Base.{Base}
 use Rattle.lq_objects.specs.Names.{Block, block_names}
 use Rattle.lq_objects.specs.declared.kind.Kind.{Kind}
 use Rattle.lq_objects.specs.declared.kind.Kind.TheVariants.{Host, Service, HostGroup, ServiceGroup, Contact, ContactGroup, Period, Command}
@@ -54,3 +55,20 @@ directory_of blocks = record {
   periods = block_names blocks Period;
   commands = block_names blocks Command;
 }
+
+-- the names are those of the objects of a base by which these are found, each at its object's place
+pub record AreNamesOf (directory : Directory) (base : Base) : Type 0 where
+  pub hosts : map parts_of directory.hosts ≡ map (λ host. (host.host_name, [])) base.hosts
+  pub services :
+      map parts_of directory.services
+      ≡ map (λ service. (service.host_name, service.service_description)) base.services
+  pub host_groups :
+      map parts_of directory.host_groups ≡ map (λ group. (group.hostgroup_name, [])) base.host_groups
+  pub service_groups :
+      map parts_of directory.service_groups
+      ≡ map (λ group. (group.servicegroup_name, [])) base.service_groups
+  pub contacts :
+      map parts_of directory.contacts ≡ map (λ contact. (contact.contact_name, [])) base.contacts
+  pub contact_groups :
+      map parts_of directory.contact_groups
+      ≡ map (λ group. (group.contactgroup_name, [])) base.contact_groups

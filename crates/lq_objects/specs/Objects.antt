@@ -124,6 +124,7 @@ service_of known lines =
     let name : List ℕ = text_or [] (codes "service_description") lines in
     record {
       host = record { 0 = host_place (places known reference.ServiceHost lines) };
+      host_name = text_or [] (codes "host_name") lines;
       service_description = name;
       fields = fields_of known name lines;
     }

@@ -9,12 +9,12 @@ use std::alloc::{AllocError, Global};
 /// The names of the objects so far, those of each kind in order.
 #[derive(Drop)]
 pub(crate) struct Directory {
-    hosts: NameIndex,
-    services: NameIndex,
-    host_groups: NameIndex,
-    service_groups: NameIndex,
-    contacts: NameIndex,
-    contact_groups: NameIndex,
+    pub(crate) hosts: NameIndex,
+    pub(crate) services: NameIndex,
+    pub(crate) host_groups: NameIndex,
+    pub(crate) service_groups: NameIndex,
+    pub(crate) contacts: NameIndex,
+    pub(crate) contact_groups: NameIndex,
     periods: NameIndex,
     commands: NameIndex,
 }

@@ -1,11 +1,14 @@
-ghost use Rattle.std.specs.Prelude.{◌≡◌, List, [], IfOk};
-ghost use Rattle.lq_names.specs.Names.{Name};
+ghost use Rattle.std.specs.Prelude.{◌≡◌, List, [], IfOk, map};
+ghost use Rattle.lq_names.specs.Names.{Name, parts_of};
+ghost use Rattle.lq_objects.specs.Directories.{AreNamesOf};
 ghost use Rattle.lq_objects.specs.Objects.{objects_of};
 
+use crate::directory::Directory;
 use crate::kind::Kind;
+use lq_names::NameIndex;
 use lq_records::{
     Base, Command, Contact, ContactGroup, Host, HostGroup, Items, MonitoredItems, NamedItems,
-    Period, Rules, Service, ServiceGroup,
+    NamedObject, Period, Rules, Service, ServiceGroup,
 };
 use std::alloc::{AllocError, Global};
 
@@ -43,20 +46,30 @@ impl Draft {
         }
     }
 
-    /// The base, in which objects are found by their names. The only error is that memory runs out.
-    pub(crate) fn finish(self, alloc: Global) -> Result<Base, AllocError>
+    /// The base, in which objects are found by the names of the directory, which are theirs. The
+    /// only error is that memory runs out.
+    pub(crate) fn finish(self, alloc: Global, names: Directory) -> Result<Base, AllocError>
+        requires { AreNamesOf names (drafted self) }
         ensures { IfOk result (λ base. base ≡ drafted self) }
     {
         Ok(Base {
-            hosts: MonitoredItems::from_vec(alloc, self.hosts.into_vec())?,
-            services: MonitoredItems::from_vec(alloc, self.services.into_vec())?,
-            host_groups: NamedItems::from_vec(alloc, self.host_groups.into_vec())?,
-            service_groups: NamedItems::from_vec(alloc, self.service_groups.into_vec())?,
-            contacts: NamedItems::from_vec(alloc, self.contacts.into_vec())?,
-            contact_groups: NamedItems::from_vec(alloc, self.contact_groups.into_vec())?,
+            hosts: MonitoredItems::new(alloc, named(self.hosts, names.hosts))?,
+            services: MonitoredItems::new(alloc, named(self.services, names.services))?,
+            host_groups: named(self.host_groups, names.host_groups),
+            service_groups: named(self.service_groups, names.service_groups),
+            contacts: named(self.contacts, names.contacts),
+            contact_groups: named(self.contact_groups, names.contact_groups),
             periods: self.periods,
             commands: self.commands,
             rules: self.rules,
         })
     }
+}
+
+/// Objects in order, which are found by names that are theirs. It takes no memory.
+fn named<T: NamedObject>(items: Items<T>, names: NameIndex) -> NamedItems<T>
+    requires { map parts_of names ≡ map T.name_of items }
+    ensures { result ≡ items }
+{
+    NamedItems::new(items.into_vec(), names.into_names())
 }

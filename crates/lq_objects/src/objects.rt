@@ -1,7 +1,7 @@
 ghost use Rattle.std.specs.Prelude.{◌≡◌, ◌≤◌, List, [], IfOk, IsTrue, OnOk, map};
 ghost use Rattle.lq_names.specs.Names.{Name};
 ghost use Rattle.lq_objects.specs.Words.{is_word};
-ghost use Rattle.lq_objects.specs.Directories.{known};
+ghost use Rattle.lq_objects.specs.Directories.{directory_of, known};
 ghost use Rattle.lq_objects.specs.Drafts.{drafted, numbers_of, with_lists, with_texts};
 ghost use Rattle.lq_objects.specs.Names.{text_or};
 ghost use Rattle.lq_objects.specs.Objects.{command_of, contact_group_of, contact_of, fields_of};
@@ -24,14 +24,29 @@ use lq_records::{
 };
 use std::alloc::AllocError;
 
-/// The objects that blocks say, by the names of all.
+/// The objects that blocks say, by the names of all, which are handed on to the base.
 pub(crate) fn objects_of(
+    texts: &Texts,
+    directory: Directory,
+    rules: Rules,
+    blocks: &[Block<'_, '_>],
+) -> Result<Base, AllocError>
+    requires { directory ≡ directory_of blocks.now }
+    ensures { IfOk result (λ base. base ≡ objects_of (known directory) rules blocks.now) }
+{
+    let draft = draft_of(texts, &directory, rules, blocks)?;
+    draft.finish(texts.alloc(), directory)
+}
+
+/// The same, not yet found by their names.
+fn draft_of(
     texts: &Texts,
     directory: &Directory,
     rules: Rules,
     blocks: &[Block<'_, '_>],
-) -> Result<Base, AllocError>
-    ensures { IfOk result (λ base. base ≡ objects_of (known directory.now) rules blocks.now) }
+) -> Result<Draft, AllocError>
+    ensures { IfOk result
+        (λ draft. drafted draft ≡ objects_of (known directory.now) rules blocks.now) }
 {
     let mut draft = Draft::new(texts.alloc(), rules);
     for block in blocks {
@@ -42,7 +57,7 @@ pub(crate) fn objects_of(
         };
         reader.add_to(&mut draft, block.kind())?;
     }
-    draft.finish(texts.alloc())
+    Ok(draft)
 }
 
 /// What the object of a block is read from: the block's lines, and the names of all objects.
@@ -93,6 +108,7 @@ impl<'r, 'a> Reader<'r, 'a> {
         let service_description = self.text(b"service_description")?;
         Ok(Service {
             host: host_place(self.texts, self.directory, self.lines)?,
+            host_name: self.text(b"host_name")?,
             fields: self.fields(&service_description)?,
             service_description,
         })

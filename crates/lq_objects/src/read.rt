@@ -47,7 +47,7 @@ fn read_lines(alloc: Global, lines: &[Line<'_>], rules: Rules) -> Result<Base, O
     let mut directory = Directory::new(alloc);
     let found = read_blocks(&texts, &mut directory, lines)?;
     match unknown_fault(&texts, &directory, &found) {
-        Ok(None) => read_known(&texts, &directory, &found, rules),
+        Ok(None) => read_known(&texts, directory, &found, rules),
         Ok(Some(fault)) => Err(fault.error()),
         Err(error) => Err(ObjectsErr::Memory(error)),
     }
@@ -56,11 +56,12 @@ fn read_lines(alloc: Global, lines: &[Line<'_>], rules: Rules) -> Result<Base, O
 /// The base that blocks say which name only what is there.
 fn read_known(
     texts: &Texts,
-    directory: &Directory,
+    directory: Directory,
     blocks: &[Block<'_, '_>],
     rules: Rules,
 ) -> Result<Base, ObjectsErr>
-    ensures { Reads result (Ok (objects_of (known directory.now) rules blocks.now)) }
+    requires { directory ≡ directory_of blocks.now }
+    ensures { Reads result (Ok (objects_of (known directory) rules blocks.now)) }
 {
     match objects_of(texts, directory, rules, blocks) {
         Ok(base) => Ok(base),

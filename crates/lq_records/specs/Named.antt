@@ -1,5 +1,5 @@
 -- The objects of a base by their names. Where several have one name, the first of them is meant.
-use Rattle.std.specs.Prelude.{◌≡◌, ℕ, ◌==◌, ◌&&◌, Option, List, bytes_eq}
+use Rattle.std.specs.Prelude.{ℕ, ◌&&◌, Bool, Option, List, bytes_eq}
 use Rattle.std.specs.List.{position}
 use Rattle.std.specs.Option.{option_map}
 use Rattle.lq_records.specs.declared.base.Contact.{Contact}
@@ -21,12 +21,13 @@ host_named hosts name =
     option_map (λ place. record { 0 = place })
     (position (λ host. bytes_eq host.host_name name) hosts)
 
--- the service on a host that has a description
-abbrev pub service_on : List Service → HostId → List ℕ → Option ServiceId
-service_on services host description =
+-- the service that has a description on the host that has a name
+abbrev pub service_named : List Service → List ℕ → List ℕ → Option ServiceId
+service_named services host_name description =
     option_map (λ place. record { 0 = place })
     (position
-    (λ service. service.host.0 == host.0 && bytes_eq service.service_description description)
+    (λ service. bytes_eq service.host_name host_name
+    && bytes_eq service.service_description description)
     services)
 
 -- the host group that has a name
@@ -53,9 +54,6 @@ contact_group_named groups name =
     option_map (λ place. record { 0 = place })
     (position (λ group. bytes_eq group.contactgroup_name name) groups)
 
--- by each owner and name, the first place of an item that has them
-abbrev pub FindsFirst : {X : Type 0} → (X → ℕ) → (X → List ℕ) → List X
-    → (ℕ → List ℕ → Option ℕ) → Type 0
-FindsFirst owner_of name_of items place_of = (owner : ℕ) (name : List ℕ)
-    → place_of owner name
-    ≡ position (λ item. owner_of item == owner && bytes_eq (name_of item) name) items
+-- whether a name of two parts has these
+abbrev pub has_name : List ℕ → List ℕ → List ℕ × List ℕ → Bool
+has_name first second name = bytes_eq name.0 first && bytes_eq name.1 second

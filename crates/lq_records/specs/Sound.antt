@@ -1,6 +1,6 @@
 -- When a base is sound.
-use Rattle.std.specs.Prelude.{◌≡◌, ◌≢◌, ℕ, ◌<◌, ◌≤◌, ◌==◌, false, List, [], map, length}
-use Rattle.std.specs.List.{All, AllPairs, list_any}
+use Rattle.std.specs.Prelude.{◌≡◌, ◌≢◌, ℕ, ◌<◌, ◌≤◌, ◌==◌, false, Some, List, [], map, length}
+use Rattle.std.specs.List.{All, AllPairs, list_any, slice_get}
 use Rattle.lq_records.specs.declared.base.Base.{Base}
 use Rattle.lq_records.specs.declared.base.ObjectFields.{ObjectFields}
 
@@ -61,6 +61,10 @@ pub record AreLinked (base : Base) : Type 0 where
       All (λ host. ArePlaces (length base.hosts) (map (λ id. id.0) host.parents)) base.hosts
   pub host_fields : All (λ host. AreSoundFields base host.fields) base.hosts
   pub service_hosts : All (λ service. service.host.0 < length base.hosts) base.services
+  pub service_names :
+      All (λ service. slice_get (map (λ host. host.host_name) base.hosts) service.host.0
+      ≡ Some service.host_name)
+      base.services
   pub service_fields : All (λ service. AreSoundFields base service.fields) base.services
   pub host_groups :
       All (λ group. ArePlaces (length base.hosts) (map (λ id. id.0) group.members)) base.host_groups

@@ -1,4 +1,4 @@
-ghost use Rattle.std.specs.Prelude.{◌≡◌, true, false};
+ghost use Rattle.std.specs.Prelude.{◌≡◌, true, false, []};
 
 use crate::ids::{ContactGroupId, ContactId, HostId, ServiceId};
 use crate::items::Items;
@@ -55,17 +55,7 @@ pub struct Host {
 }
 
 impl NamedObject for Host {
-    ghost owner_of = { λ _. 0 };
-
-    ghost name_of = { λ item. item.host_name };
-
-    fn owner(&self) -> u32 {
-        0
-    }
-
-    fn name(&self) -> &Text {
-        &self.host_name
-    }
+    ghost name_of = { λ item. (item.host_name, []) };
 }
 
 /// A service as the object file says it.
@@ -73,6 +63,8 @@ impl NamedObject for Host {
 pub struct Service {
     /// The host that it runs on.
     pub host: HostId,
+    /// That host's name.
+    pub host_name: Text,
     /// Its name beside that of its host.
     pub service_description: Text,
     /// What it shares with hosts.
@@ -80,17 +72,7 @@ pub struct Service {
 }
 
 impl NamedObject for Service {
-    ghost owner_of = { λ service. service.host.0 };
-
-    ghost name_of = { λ item. item.service_description };
-
-    fn owner(&self) -> u32 {
-        self.host.0
-    }
-
-    fn name(&self) -> &Text {
-        &self.service_description
-    }
+    ghost name_of = { λ service. (service.host_name, service.service_description) };
 }
 
 /// A group of hosts.
@@ -107,17 +89,7 @@ pub struct HostGroup {
 }
 
 impl NamedObject for HostGroup {
-    ghost owner_of = { λ _. 0 };
-
-    ghost name_of = { λ item. item.hostgroup_name };
-
-    fn owner(&self) -> u32 {
-        0
-    }
-
-    fn name(&self) -> &Text {
-        &self.hostgroup_name
-    }
+    ghost name_of = { λ item. (item.hostgroup_name, []) };
 }
 
 /// A group of services.
@@ -134,17 +106,7 @@ pub struct ServiceGroup {
 }
 
 impl NamedObject for ServiceGroup {
-    ghost owner_of = { λ _. 0 };
-
-    ghost name_of = { λ item. item.servicegroup_name };
-
-    fn owner(&self) -> u32 {
-        0
-    }
-
-    fn name(&self) -> &Text {
-        &self.servicegroup_name
-    }
+    ghost name_of = { λ item. (item.servicegroup_name, []) };
 }
 
 /// Who is told about hosts and services, and may see them.
@@ -162,17 +124,7 @@ pub struct Contact {
 }
 
 impl NamedObject for Contact {
-    ghost owner_of = { λ _. 0 };
-
-    ghost name_of = { λ item. item.contact_name };
-
-    fn owner(&self) -> u32 {
-        0
-    }
-
-    fn name(&self) -> &Text {
-        &self.contact_name
-    }
+    ghost name_of = { λ item. (item.contact_name, []) };
 }
 
 /// A group of contacts.
@@ -186,17 +138,7 @@ pub struct ContactGroup {
 }
 
 impl NamedObject for ContactGroup {
-    ghost owner_of = { λ _. 0 };
-
-    ghost name_of = { λ item. item.contactgroup_name };
-
-    fn owner(&self) -> u32 {
-        0
-    }
-
-    fn name(&self) -> &Text {
-        &self.contactgroup_name
-    }
+    ghost name_of = { λ item. (item.contactgroup_name, []) };
 }
 
 /// A time period.

@@ -9,7 +9,7 @@ mod ids;
 mod items;
 mod micro;
 mod monitored;
-mod name_key;
+mod name_query;
 mod named;
 mod object;
 mod refusal;

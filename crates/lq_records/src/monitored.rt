@@ -1,7 +1,7 @@
 ghost use Rattle.std.specs.Prelude.{◌≡◌, ◌<◌, ◌↔◌, ◌++◌, ◌∷◌, ℕ, List, [], Some, length, map, IfOk, IfSome, IsTrue, OnOk};
 ghost use Rattle.std.specs.List.{slice_get};
 ghost use Rattle.lq_records.specs.Contacts.{AreListsOf, IsIndexOf, lists_of};
-ghost use Rattle.lq_records.specs.Named.{host_named, service_on};
+ghost use Rattle.lq_records.specs.Named.{host_named, service_named};
 ghost use Rattle.lq_records.specs.declared.base.ObjectFields.{ObjectFields};
 ghost use Rattle.lq_records.specs.declared.monitored.ContactLists.{ContactLists};
 
@@ -17,24 +17,42 @@ use std::marker::Model;
 pub trait MonitoredObject: NamedObject {
     ghost fields_of: { Self → ObjectFields };
 
+    ghost owner_of: { Self → ℕ };
+
     /// The directives that hosts and services share.
     fn fields(&self) -> &ObjectFields
         ensures { result.now ≡ fields_of self.now };
+
+    /// The place of its owner: for a service that of its host, and 0 for a host.
+    fn owner(&self) -> u32
+        ensures { result ≡ owner_of self.now };
 }
 
 impl MonitoredObject for Host {
     ghost fields_of = { λ host. host.fields };
 
+    ghost owner_of = { λ _. 0 };
+
     fn fields(&self) -> &ObjectFields {
         &self.fields
+    }
+
+    fn owner(&self) -> u32 {
+        0
     }
 }
 
 impl MonitoredObject for Service {
     ghost fields_of = { λ service. service.fields };
 
+    ghost owner_of = { λ service. service.host.0 };
+
     fn fields(&self) -> &ObjectFields {
         &self.fields
+    }
+
+    fn owner(&self) -> u32 {
+        self.host.0
     }
 }
 
@@ -111,16 +129,16 @@ impl<T: MonitoredObject> Model for MonitoredItems<T> {
 }
 
 impl<T: MonitoredObject> MonitoredItems<T> {
-    /// The items of a vector, in its order. The only error is that memory runs out.
-    pub fn from_vec(alloc: Global, items: Vec<T>) -> Result<Self, Memory>
+    /// The items of a list that finds them by their names. The only error is that memory runs out.
+    pub fn new(alloc: Global, items: NamedItems<T>) -> Result<Self, Memory>
     where
         T: Drop,
-        ensures { IfOk result (λ list. list ≡ items.items) }
+        ensures { IfOk result (λ list. list ≡ items) }
     {
-        let contacts = gather(alloc, &items)?;
-        let owners = owners_of(alloc, &items)?;
+        let contacts = gather(alloc, items.as_slice())?;
+        let owners = owners_of(alloc, items.as_slice())?;
         Ok(MonitoredItems {
-            items: NamedItems::from_vec(alloc, items)?,
+            items,
             contacts,
             owners,
         })
@@ -161,7 +179,7 @@ impl<T: MonitoredObject> MonitoredItems<T> {
 }
 
 impl MonitoredItems<Host> {
-    /// The first host with a name. None where no host has it.
+    /// The host with a name. None where no host has it.
     pub fn find(&self, name: &str) -> Option<HostId>
         ensures value { result ≡ host_named self.now name.now }
         ensures within { IfSome result (λ id. id.0 < length self.now) }
@@ -171,12 +189,12 @@ impl MonitoredItems<Host> {
 }
 
 impl MonitoredItems<Service> {
-    /// The first service on a host with a description. None where no service has them.
-    pub fn find(&self, host: HostId, description: &str) -> Option<ServiceId>
-        ensures value { result ≡ service_on self.now host description.now }
+    /// The service with a description on the host with a name. None where no service has them.
+    pub fn find(&self, host_name: &str, description: &str) -> Option<ServiceId>
+        ensures value { result ≡ service_named self.now host_name.now description.now }
         ensures within { IfSome result (λ id. id.0 < length self.now) }
     {
-        self.items.find(host, description)
+        self.items.find(host_name, description)
     }
 }
 

@@ -1,40 +1,25 @@
-ghost use Rattle.std.specs.Prelude.{◌≡◌, ◌==◌, ◌&&◌, ◌<◌, ◌^◌, ◌↔◌, ℕ, List, [], bytes_eq, length, IfOk, IfSome, IsTrue};
+ghost use Rattle.std.specs.Prelude.{◌≡◌, ◌<◌, ◌^◌, ◌↔◌, ℕ, List, [], length, map, IfSome, IsTrue};
 ghost use Rattle.std.specs.List.{position};
-ghost use Rattle.indexmap.specs.IndexMap.{get};
-ghost use Rattle.lq_records.specs.Named.{FindsFirst, contact_group_named, contact_named, host_group_named, host_named, service_group_named, service_on};
+ghost use Rattle.lq_records.specs.Named.{has_name, contact_group_named, contact_named, host_group_named, host_named, service_group_named, service_named};
 
-use crate::Memory;
 use crate::base::{Contact, ContactGroup, Host, HostGroup, Service, ServiceGroup};
 use crate::ids::{ContactGroupId, ContactId, HostGroupId, HostId, ServiceGroupId, ServiceId};
-use crate::name_key::{NameKey, NameQuery};
+use crate::name_query::NameQuery;
 use crate::text::Text;
-use indexmap::IndexMap;
-use std::alloc::{AllocError, Global};
+use indexmap::IndexSet;
 use std::marker::Model;
 
-/// An object that is found by its name, among all of its kind or among those of one owner.
+/// An object that is found by its name. A service's name has two parts, its host's name and its
+/// description; any other has an empty second part.
 pub trait NamedObject {
-    ghost owner_of: { Self → ℕ };
-
-    ghost name_of: { Self → List ℕ };
-
-    /// The place of its owner: for a service that of its host, and 0 for all others.
-    fn owner(&self) -> u32
-        ensures { result ≡ owner_of self.now };
-
-    /// Its name.
-    fn name(&self) -> &Text
-        ensures { result.now ≡ name_of self.now };
+    ghost name_of: { Self → List ℕ × List ℕ };
 }
-
-/// The most items of a list in which names are found, far more than there is memory for.
-const MOST_ITEMS: usize = 0xFFFF_FFFF;
 
 /// A list whose items are found by their names. Contracts see it as the list of its items.
 pub struct NamedItems<T: NamedObject> {
     items: Vec<T>,
-    /// The first place of each name.
-    index: IndexMap<NameKey, u32>,
+    /// The name of each item, in the order of the items.
+    names: IndexSet<(Text, Text)>,
 }
 
 // Written by hand: where one is dropped a proof then meets a call, and not each of the fields.
@@ -42,38 +27,31 @@ impl<T: NamedObject + Drop> Drop for NamedItems<T> {
     fn drop(self) {
         let NamedItems {
             items: _items,
-            index: _index,
+            names: _names,
         } = self;
     }
 }
 
 impl<T: NamedObject> Model for NamedItems<T> {
-    ghost use Rattle.std.specs.Prelude.{List, ◌<◌, ◌^◌, length};
-    ghost use Rattle.indexmap.specs.IndexMap.{get};
-    ghost use Rattle.lq_records.specs.Named.{FindsFirst};
+    ghost use Rattle.std.specs.Prelude.{◌≡◌, ◌<◌, ◌^◌, List, length, map};
 
     ghost Value = { List T };
 
     ghost view = { λ list. list.items.items };
 
     ghost invariant = { λ list. (length list.items.items < 2 ^ 32)
-        × FindsFirst T.owner_of T.name_of list.items.items
-        (λ owner name. get ⟦<NameKey as PartialEq>⟧.eq list.index
-        (record { owner = owner; name = name })) };
+        × (list.names.keys ≡ map T.name_of list.items.items) };
 }
 
 impl<T: NamedObject> NamedItems<T> {
-    /// The items of a vector, in its order. The only error is that memory runs out.
-    pub fn from_vec(alloc: Global, items: Vec<T>) -> Result<Self, Memory>
-    where
-        T: Drop,
-        ensures { IfOk result (λ list. list ≡ items.items) }
+    /// Items in order, which are found by names that are handed on: theirs, in the same order. It
+    /// takes no memory.
+    pub fn new(items: Vec<T>, names: IndexSet<(Text, Text)>) -> Self
+        requires few { length items.items < 2 ^ 32 }
+        requires names { names.keys ≡ map T.name_of items.items }
+        ensures { result ≡ items.items }
     {
-        if items.len() > MOST_ITEMS {
-            return Err(AllocError);
-        }
-        let index = index_of(alloc, &items)?;
-        Ok(NamedItems { items, index })
+        NamedItems { items, names }
     }
 
     /// How many items it has.
@@ -97,99 +75,95 @@ impl<T: NamedObject> NamedItems<T> {
         self.items.as_slice()
     }
 
-    /// The first place of an item with an owner and a name. None where no item has them.
-    pub fn place_of(&self, owner: u32, name: &str) -> Option<u32>
+    /// The place of the item with a name. None where no item has it.
+    fn place_of(&self, name: NameQuery<'_>) -> Option<u32>
         ensures value { result ≡ position
-            (λ item. T.owner_of item == owner && bytes_eq (T.name_of item) name.now) self.now }
+            (λ item. has_name name.entry.first.now name.entry.second.now (T.name_of item)) self.now }
         ensures within { IfSome result (λ place. place < length self.now) }
     {
-        self.index.get(NameQuery { owner, name }).copied()
-    }
-}
-
-/// The first place of each name of items.
-fn index_of<T: NamedObject>(alloc: Global, items: &[T]) -> Result<IndexMap<NameKey, u32>, Memory>
-    requires { length items.now < 2 ^ 32 }
-    ensures { IfOk result (λ index. FindsFirst T.owner_of T.name_of items.now
-        (λ owner name. get ⟦<NameKey as PartialEq>⟧.eq index
-        (record { owner = owner; name = name }))) }
-{
-    let mut index = IndexMap::with_capacity(alloc, items.len())?;
-    for (place, item) in items.iter().enumerate() {
-        let query = NameQuery {
-            owner: item.owner(),
-            name: item.name().as_str(),
-        };
-        if index.contains_key(query) {
-            continue;
+        match self.names.get_index_of(name) {
+            Some(place) => Some(place as u32),
+            None => None,
         }
-        let key = NameKey {
-            owner: query.owner,
-            name: item.name().clone()?,
-        };
-        let Ok(_) = index.insert(key, place as u32) else {
-            return Err(AllocError);
-        };
     }
-    Ok(index)
+
+    /// The place of the item with a name of one part.
+    fn place_of_single(&self, name: &str) -> Option<u32>
+        ensures value { result ≡ position
+            (λ item. has_name name.now [] (T.name_of item)) self.now }
+        ensures within { IfSome result (λ place. place < length self.now) }
+    {
+        self.place_of(NameQuery {
+            first: name,
+            second: "",
+        })
+    }
 }
 
 impl NamedItems<Host> {
-    /// The first host with a name. None where no host has it.
+    /// The host with a name. None where no host has it.
+    #[tactic(auto, using(crate::proofs::NameLemmas::by_one_part))]
     pub fn find(&self, name: &str) -> Option<HostId>
         ensures value { result ≡ host_named self.now name.now }
         ensures within { IfSome result (λ id. id.0 < length self.now) }
     {
-        Some(HostId(self.place_of(0, name)?))
+        Some(HostId(self.place_of_single(name)?))
     }
 }
 
 impl NamedItems<Service> {
-    /// The first service on a host with a description. None where no service has them.
-    pub fn find(&self, host: HostId, description: &str) -> Option<ServiceId>
-        ensures value { result ≡ service_on self.now host description.now }
+    /// The service with a description on the host with a name. None where no service has them.
+    pub fn find(&self, host_name: &str, description: &str) -> Option<ServiceId>
+        ensures value { result ≡ service_named self.now host_name.now description.now }
         ensures within { IfSome result (λ id. id.0 < length self.now) }
     {
-        Some(ServiceId(self.place_of(host.0, description)?))
+        Some(ServiceId(self.place_of(NameQuery {
+            first: host_name,
+            second: description,
+        })?))
     }
 }
 
 impl NamedItems<HostGroup> {
-    /// The first group with a name. None where no group has it.
+    /// The group with a name. None where no group has it.
+    #[tactic(auto, using(crate::proofs::NameLemmas::by_one_part))]
     pub fn find(&self, name: &str) -> Option<HostGroupId>
         ensures value { result ≡ host_group_named self.now name.now }
         ensures within { IfSome result (λ id. id.0 < length self.now) }
     {
-        Some(HostGroupId(self.place_of(0, name)?))
+        Some(HostGroupId(self.place_of_single(name)?))
     }
 }
 
 impl NamedItems<ServiceGroup> {
-    /// The first group with a name. None where no group has it.
+    /// The group with a name. None where no group has it.
+    #[tactic(auto, using(crate::proofs::NameLemmas::by_one_part))]
     pub fn find(&self, name: &str) -> Option<ServiceGroupId>
         ensures value { result ≡ service_group_named self.now name.now }
         ensures within { IfSome result (λ id. id.0 < length self.now) }
     {
-        Some(ServiceGroupId(self.place_of(0, name)?))
+        Some(ServiceGroupId(self.place_of_single(name)?))
     }
 }
 
 impl NamedItems<Contact> {
-    /// The first contact with a name. None where no contact has it.
+    /// The contact with a name. None where no contact has it.
+    #[tactic(auto, using(crate::proofs::NameLemmas::by_one_part))]
     pub fn find(&self, name: &str) -> Option<ContactId>
         ensures value { result ≡ contact_named self.now name.now }
         ensures within { IfSome result (λ id. id.0 < length self.now) }
     {
-        Some(ContactId(self.place_of(0, name)?))
+        Some(ContactId(self.place_of_single(name)?))
     }
 }
 
 impl NamedItems<ContactGroup> {
-    /// The first group with a name. None where no group has it.
+    /// The group with a name. None where no group has it.
+    #[tactic(auto, using(crate::proofs::NameLemmas::by_one_part))]
     pub fn find(&self, name: &str) -> Option<ContactGroupId>
         ensures value { result ≡ contact_group_named self.now name.now }
         ensures within { IfSome result (λ id. id.0 < length self.now) }
     {
-        Some(ContactGroupId(self.place_of(0, name)?))
+        Some(ContactGroupId(self.place_of_single(name)?))
     }
 }

@@ -1,18 +1,20 @@
-use Rattle.std.proofs.Common.{◌≡◌, ℕ, ◌<◌, ◌==◌, ◌&&◌, Option, Some, None, IfSome, length, sym, ◌∙◌}
+use Rattle.std.proofs.Common.{List, ℕ, ap, ◌∙◌}
 use Rattle.std.specs.List.{position}
-use Rattle.std.specs.Prelude.{bytes_eq}
-use Rattle.lq_records.proofs.NameLemmas.{place_within}
+use Rattle.std.specs.Prelude.{bytes_eq, ◌&&◌}
+use Rattle.lq_records.specs.Named.{has_name}
+use Rattle.lq_records.proofs.NameLemmas.{place_among}
 use Rattle.lq_records.proofs.named.NamedItems.place_of.Goals as goal
 
-pub returns-clause-value : goal.returns-clause-value
-returns-clause-value g c =
-    rw (← c.self.view_is) (c.copied.ensures ∙ c.get.ensures.value ∙ c.self.invariant.1 c.args.owner c.args.name.now)
+pub returns-in-Some-clause-value : goal.returns-in-Some-clause-value
+returns-in-Some-clause-value g c =
+    c.in-Some.ensures.index
+    ∙ ap (position (λ (name : List ℕ × List ℕ). bytes_eq c.args.name.first.now name.0 && bytes_eq c.args.name.second.now name.1)) c.self.invariant.1
+    ∙ place_among g.T.NamedObject.name_of c.self.inside.items.items c.args.name.first.now c.args.name.second.now
+    ∙ ap (position (λ item. has_name c.args.name.first.now c.args.name.second.now (g.T.NamedObject.name_of item))) c.self.view_is
 
-pub returns-clause-within : goal.returns-clause-within
-returns-clause-within g c =
-    within c.copied.result (rw (← c.self.view_is) (c.copied.ensures ∙ c.get.ensures.value ∙ c.self.invariant.1 c.args.owner c.args.name.now))
-  where
-    within : (place : Option ℕ) → place ≡ position (λ item. g.T.NamedObject.owner_of item == c.args.owner && bytes_eq (g.T.NamedObject.name_of item) c.args.name.now) c.args.self.now
-        → IfSome place (λ place. place < length c.args.self.now)
-    within None is = tt
-    within (Some place) is = place_within _ c.args.self.now place (sym is)
+pub returns-in-None-clause-value : goal.returns-in-None-clause-value
+returns-in-None-clause-value g c =
+    c.in-None.ensures.index
+    ∙ ap (position (λ (name : List ℕ × List ℕ). bytes_eq c.args.name.first.now name.0 && bytes_eq c.args.name.second.now name.1)) c.self.invariant.1
+    ∙ place_among g.T.NamedObject.name_of c.self.inside.items.items c.args.name.first.now c.args.name.second.now
+    ∙ ap (position (λ item. has_name c.args.name.first.now c.args.name.second.now (g.T.NamedObject.name_of item))) c.self.view_is
