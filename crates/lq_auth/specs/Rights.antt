@@ -4,7 +4,7 @@ use Rattle.std.specs.Prelude.{ℕ, ◌==◌, ◌&&◌, ◌||◌, not, Bool, true
 use Rattle.std.specs.List.{list_all, list_any}
 use Rattle.std.specs.Option.{is_some}
 use Rattle.lq_records.specs.Named.{contact_named}
-use Rattle.lq_auth.specs.Places.{holds_at}
+use Rattle.lq_records.specs.Places.{holds_at}
 use Rattle.lq_records.specs.declared.base.Base.{Base}
 use Rattle.lq_records.specs.declared.base.Host.{Host}
 use Rattle.lq_records.specs.declared.base.HostGroup.{HostGroup}

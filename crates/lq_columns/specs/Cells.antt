@@ -1,6 +1,7 @@
 -- The value that each column has of a host and of a service.
 use Rattle.std.specs.Prelude.{ℕ, ℤ, pos, ◌==◌, ◌&&◌, Bool, Option, List, length, map, filter, if◌then◌else◌}
 use Rattle.std.specs.Ordering.{int_eq}
+use Rattle.lq_records.specs.Places.{list_at, made_at}
 use Rattle.lq_records.specs.declared.base.Base.{Base}
 use Rattle.lq_records.specs.declared.base.ObjectFields.{ObjectFields}
 use Rattle.lq_records.specs.declared.base.Host.{Host}
@@ -27,7 +28,6 @@ use Rattle.lq_schema.specs.Value.{Value, Number, Words, Texts, Numbers}
 use Rattle.lq_log.specs.LastTold.{is_flapping, is_period_on}
 use Rattle.lq_live.specs.State.{State}
 use Rattle.lq_records.specs.Object.{is_same_object}
-use Rattle.lq_auth.specs.Places.{list_at, made_at}
 use Rattle.lq_auth.specs.declared.view.View.{View}
 use Rattle.lq_columns.specs.Names.{child_names_of, contact_group_names_of, contact_names_of, contacts_of, descriptions_of, group_names_of, parent_names_of, variable_names_of, variable_values_of}
 use Rattle.lq_columns.specs.Counts.{hosts_counted, services_counted, worst_host, worst_service}

@@ -2,6 +2,7 @@
 use Rattle.std.specs.Prelude.{◌≡◌, ℕ, ◌==◌, Bool, false, Option, Some, None, List, [], ◌∷◌, ◌++◌, bytes_eq, nat_eq, map, filter, length, drop, if◌then◌else◌}
 use Rattle.std.specs.List.{filter_map, flat_map, list_any, range_with_len, starts_with}
 use Rattle.std.specs.Option.{option_map_or}
+use Rattle.lq_records.specs.Places.{field_at, fields_at, holds_at, list_at}
 use Rattle.lq_records.specs.declared.base.Base.{Base}
 use Rattle.lq_records.specs.declared.base.ObjectFields.{ObjectFields}
 use Rattle.lq_records.specs.declared.base.Host.{Host}
@@ -13,7 +14,6 @@ use Rattle.lq_records.specs.declared.ids.ContactId.{ContactId}
 use Rattle.lq_records.specs.declared.ids.ContactGroupId.{ContactGroupId}
 use Rattle.lq_records.specs.declared.object.Object.{Object}
 use Rattle.lq_records.specs.declared.object.Object.TheVariants as object
-use Rattle.lq_auth.specs.Places.{field_at, fields_at, holds_at, list_at}
 use Rattle.lq_auth.specs.Rights.{sees_host, sees_service}
 use Rattle.lq_auth.specs.declared.view.View.{View}
 use Rattle.lq_columns.specs.Distinct.{first_of_each}

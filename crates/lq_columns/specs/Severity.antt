@@ -3,7 +3,7 @@
 use Rattle.std.specs.Prelude.{ℕ, ℤ, pos, ◌==◌, List, if◌then◌else◌}
 use Rattle.std.specs.Ordering.{int_eq}
 use Rattle.lq_events.specs.declared.status.Status.{Status}
-use Rattle.lq_auth.specs.Places.{number_at}
+use Rattle.lq_records.specs.Places.{number_at}
 use Rattle.lq_columns.specs.Counts.{state_of_member}
 
 -- the severity of the object at a place

@@ -2,6 +2,7 @@
 use Rattle.std.specs.Prelude.{◌≡◌, ℕ, ◌==◌, Option, Some, None, List}
 use Rattle.std.specs.List.{find, slice_get}
 use Rattle.std.specs.Option.{IsSome, option_map, option_and_then}
+use Rattle.lq_records.specs.Places.{field_at, found_at}
 use Rattle.lq_records.specs.declared.base.Base.{Base}
 use Rattle.lq_records.specs.declared.base.Command.{Command}
 use Rattle.lq_records.specs.declared.base.Contact.{Contact}
@@ -18,7 +19,6 @@ use Rattle.lq_records.specs.declared.object.Object.{Object}
 use Rattle.lq_records.specs.declared.object.Object.TheVariants as object
 use Rattle.lq_log.specs.Told.{object_of}
 use Rattle.lq_live.specs.State.{State}
-use Rattle.lq_auth.specs.Places.{field_at, found_at}
 use Rattle.lq_columns.specs.Cells.{HostRecord, ServiceRecord, host_at, service_at}
 use Rattle.lq_tables.specs.Schema.{schema}
 use Rattle.lq_tables.specs.declared.history_row.HistoryRow.{HistoryRow}

@@ -1,6 +1,7 @@
 -- The values of the columns on contacts, commands, time periods, downtimes, comments, lines of the
 -- log, the program and the schema.
 use Rattle.std.specs.Prelude.{ℕ, Option, Some, None, List, length, codes}
+use Rattle.lq_records.specs.Places.{all_found_at, field_at}
 use Rattle.lq_records.specs.declared.base.Base.{Base}
 use Rattle.lq_records.specs.declared.base.Command.{Command}
 use Rattle.lq_records.specs.declared.base.Contact.{Contact}
@@ -34,7 +35,6 @@ use Rattle.lq_schema.specs.Value.{Value, Number, Words, empty_value}
 use Rattle.lq_log.specs.LastTold.{is_period_on}
 use Rattle.lq_log.specs.Types.{line_options, line_type}
 use Rattle.lq_live.specs.State.{State}
-use Rattle.lq_auth.specs.Places.{all_found_at, field_at}
 use Rattle.lq_columns.specs.Cells.{flag, natural}
 use Rattle.lq_records.specs.Object.{is_same_kind, kind_of}
 use Rattle.lq_records.specs.declared.object.Object.{Object}

@@ -1,6 +1,7 @@
 -- The values of the columns on slices of histories.
 use Rattle.std.specs.Prelude.{ℕ, ◌-◌, ◌*◌, ◌/◌, ◌==◌, ℤ, pos, negsuc, Option, Some, None, List, [], if◌then◌else◌}
 use Rattle.std.specs.Ordering.{int_eq}
+use Rattle.lq_records.specs.Places.{list_at}
 use Rattle.lq_records.specs.declared.base.Base.{Base}
 use Rattle.lq_records.specs.declared.ids.HostId.{HostId}
 use Rattle.lq_records.specs.declared.object.Object.{Object}
@@ -12,7 +13,6 @@ use Rattle.lq_schema.specs.Kinds.{slice_kind}
 use Rattle.lq_schema.specs.Value.{Value, Number, Words, empty_value}
 use Rattle.lq_statehist.specs.declared.slice.Slice.{Slice}
 use Rattle.lq_live.specs.State.{State}
-use Rattle.lq_auth.specs.Places.{list_at}
 use Rattle.lq_columns.specs.Cells.{flag, natural, period_of}
 use Rattle.lq_tables.specs.declared.history_row.HistoryRow.{HistoryRow}
 

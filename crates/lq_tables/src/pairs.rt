@@ -1,6 +1,6 @@
 ghost use Rattle.std.specs.Prelude.{◌≡◌, ◌++◌, IfOk, OnOk, option_to_list};
 ghost use Rattle.std.specs.Option.{option_map};
-ghost use Rattle.lq_auth.specs.Places.{found_at};
+ghost use Rattle.lq_records.specs.Places.{found_at};
 ghost use Rattle.lq_tables.specs.Parts.{pair_of, pairs_of};
 
 use lq_records::{Base, Items, Memory, Service, ServiceId, Text};

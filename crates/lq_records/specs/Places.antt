@@ -29,18 +29,19 @@ found_at find items place = option_and_then find (slice_get items place)
 -- what is made of the items that two lists have at a place
 abbrev pub made_at : {A B C : Type 0} → (A → B → C) → List A → List B → ℕ → Option C
 made_at make items others place =
-    option_and_then (λ item. option_map (make item) (slice_get others place)) (slice_get items place)
+    option_and_then (λ item. option_map (make item) (slice_get others place))
+    (slice_get items place)
 
--- ---- at the places of ids, in their order
+-- ---- at several places, in their order
 
--- the items
+-- the items at the places of ids
 abbrev pub items_at : {A I : Type 0} → List A → (I → ℕ) → List I → List A
 items_at items place_of ids = filter_map (λ id. slice_get items (place_of id)) ids
 
--- what the items have
+-- what the items at the places of ids have
 abbrev pub fields_at : {A B I : Type 0} → (A → B) → List A → (I → ℕ) → List I → List B
 fields_at field items place_of ids = filter_map (λ id. field_at field items (place_of id)) ids
 
--- what is found by the items
+-- what is found by the items at the places of ids
 abbrev pub all_found_at : {A B I : Type 0} → (A → Option B) → List A → (I → ℕ) → List I → List B
 all_found_at find items place_of ids = filter_map (λ id. found_at find items (place_of id)) ids
