@@ -1,9 +1,10 @@
 -- Who may see what. A query without a user sees all of it; the user of a query is the name of a
 -- contact, which may be unknown.
 use Rattle.std.specs.Prelude.{ℕ, ◌==◌, ◌&&◌, ◌||◌, not, Bool, true, false, Option, Some, None, List, length, map, slice_index_or}
-use Rattle.std.specs.List.{list_all, list_any, slice_get}
-use Rattle.std.specs.Option.{is_some, option_map_or}
+use Rattle.std.specs.List.{list_all, list_any}
+use Rattle.std.specs.Option.{is_some}
 use Rattle.lq_records.specs.Named.{contact_named}
+use Rattle.lq_records.specs.Places.{holds_at}
 use Rattle.lq_records.specs.declared.base.Base.{Base}
 use Rattle.lq_records.specs.declared.base.Host.{Host}
 use Rattle.lq_records.specs.declared.base.HostGroup.{HostGroup}
@@ -32,8 +33,7 @@ has_contact (Some contact) ids = list_any (λ id. id.0 == contact.0) ids
 -- whether a contact group has one
 abbrev pub group_has : Base → Option ContactId → ContactGroupId → Bool
 group_has base contact id =
-    option_map_or (λ group. has_contact contact group.members)
-    (slice_get base.contact_groups id.0) false
+    holds_at (λ group. has_contact contact group.members) base.contact_groups id.0
 
 -- the contacts of an object are those that are named at it, and those of its contact groups
 abbrev pub is_contact_of : Base → Option ContactId → ObjectFields → Bool
@@ -48,8 +48,7 @@ is_host_seen base contact host = is_contact_of base contact host.fields
 
 -- the host with an id
 abbrev pub is_host_seen_at : Base → Option ContactId → HostId → Bool
-is_host_seen_at base contact id =
-    option_map_or (is_host_seen base contact) (slice_get base.hosts id.0) false
+is_host_seen_at base contact id = holds_at (is_host_seen base contact) base.hosts id.0
 
 -- a service is seen by its contacts, and under loose rules also by those of its host
 abbrev pub is_service_seen : Base → Option ContactId → Service → Bool
@@ -59,8 +58,7 @@ is_service_seen base contact service =
 
 -- the service with an id
 abbrev pub is_service_seen_at : Base → Option ContactId → ServiceId → Bool
-is_service_seen_at base contact id =
-    option_map_or (is_service_seen base contact) (slice_get base.services id.0) false
+is_service_seen_at base contact id = holds_at (is_service_seen base contact) base.services id.0
 
 -- ---- groups
 

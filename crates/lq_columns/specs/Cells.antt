@@ -1,8 +1,7 @@
 -- The value that each column has of a host and of a service.
-use Rattle.std.specs.Prelude.{ℕ, ℤ, pos, ◌==◌, ◌&&◌, Bool, Option, List, [], length, map, filter, if◌then◌else◌}
-use Rattle.std.specs.List.{slice_get}
-use Rattle.std.specs.Option.{option_map, option_map_or, option_and_then}
+use Rattle.std.specs.Prelude.{ℕ, ℤ, pos, ◌==◌, ◌&&◌, Bool, Option, List, length, map, filter, if◌then◌else◌}
 use Rattle.std.specs.Ordering.{int_eq}
+use Rattle.lq_records.specs.Places.{list_at, made_at}
 use Rattle.lq_records.specs.declared.base.Base.{Base}
 use Rattle.lq_records.specs.declared.base.ObjectFields.{ObjectFields}
 use Rattle.lq_records.specs.declared.base.Host.{Host}
@@ -25,10 +24,7 @@ use Rattle.lq_schema.specs.declared.host.HostColumn.{HostColumn}
 use Rattle.lq_schema.specs.declared.host.HostColumn.TheVariants as host_column
 use Rattle.lq_schema.specs.declared.service.ServiceColumn.{ServiceColumn}
 use Rattle.lq_schema.specs.declared.service.ServiceColumn.TheVariants as service_column
-use Rattle.lq_schema.specs.declared.columns.OwnColumn.{OwnColumn}
-use Rattle.lq_schema.specs.declared.columns.OwnColumn.TheVariants as own
-use Rattle.lq_schema.specs.Kinds.{host_kind, own_kind, service_kind}
-use Rattle.lq_schema.specs.Value.{Value, Number, Words, Texts, Numbers, empty_value}
+use Rattle.lq_schema.specs.Value.{Value, Number, Words, Texts, Numbers}
 use Rattle.lq_log.specs.LastTold.{is_flapping, is_period_on}
 use Rattle.lq_live.specs.State.{State}
 use Rattle.lq_records.specs.Object.{is_same_object}
@@ -97,9 +93,9 @@ comment_ids_of s about =
 -- the name of the time period in which people are notified about an object
 abbrev pub period_of : Base → Object → List ℕ
 period_of base (object.Host id) =
-    option_map_or (λ host. host.fields.notification_period) (slice_get base.hosts id.0) []
+    list_at (λ host. host.fields.notification_period) base.hosts id.0
 period_of base (object.Service id) =
-    option_map_or (λ service. service.fields.notification_period) (slice_get base.services id.0) []
+    list_at (λ service. service.fields.notification_period) base.services id.0
 
 -- flapping and the period follow the log
 abbrev pub status_cell : State → Object → Status → StatusColumn → Value
@@ -171,10 +167,8 @@ host_record row = record { id = row.id; host = row.host.now; status = row.status
 -- the host with an id
 abbrev pub host_at : State → HostId → Option HostRecord
 host_at s id =
-    option_and_then (λ host.
-    option_map (λ status. record { id = id; host = host; status = status })
-    (slice_get s.host_status id.0))
-    (slice_get s.base.hosts id.0)
+    made_at (λ host status. record { id = id; host = host; status = status })
+    s.base.hosts s.host_status id.0
 
 abbrev pub host_cell : State → View → HostRecord → HostColumn → Value
 host_cell s view about host_column.Name = Words about.host.host_name
@@ -193,14 +187,6 @@ host_cell s view about (host_column.Status column) =
 host_cell s view about (host_column.Counter column) =
     services_cell s view (scope.Host about.id) column
 
--- the value of a column of the host with an id; the empty value of its kind where there is no such
--- host, or the column is of something else
-abbrev pub host_value : State → View → HostId → OwnColumn → Value
-host_value s view id (own.Host column) =
-    option_map_or (λ about. host_cell s view about column) (host_at s id)
-    (empty_value (host_kind column))
-host_value s view id column = empty_value (own_kind column)
-
 -- ---- services
 
 -- a service of a state: its id, what the object file says of it, and its status
@@ -216,10 +202,8 @@ service_record row = record { id = row.id; service = row.service.now; status = r
 -- the service with an id
 abbrev pub service_at : State → ServiceId → Option ServiceRecord
 service_at s id =
-    option_and_then (λ service.
-    option_map (λ status. record { id = id; service = service; status = status })
-    (slice_get s.service_status id.0))
-    (slice_get s.base.services id.0)
+    made_at (λ service status. record { id = id; service = service; status = status })
+    s.base.services s.service_status id.0
 
 abbrev pub service_cell : State → ServiceRecord → ServiceColumn → Value
 service_cell s about service_column.Description = Words about.service.service_description
@@ -227,11 +211,3 @@ service_cell s about (service_column.Object column) =
     object_cell s.base (object.Service about.id) about.service.fields column
 service_cell s about (service_column.Status column) =
     status_cell s (object.Service about.id) about.status column
-
--- the value of a column of the service with an id; the empty value of its kind where there is no
--- such service, or the column is of something else
-abbrev pub service_value : State → ServiceId → OwnColumn → Value
-service_value s id (own.Service column) =
-    option_map_or (λ about. service_cell s about column) (service_at s id)
-    (empty_value (service_kind column))
-service_value s id column = empty_value (own_kind column)

@@ -1,8 +1,8 @@
 -- How many hosts and services are in a state, and the worst state of several.
-use Rattle.std.specs.Prelude.{ℕ, ℤ, pos, ◌==◌, ◌&&◌, not, Bool, true, false, List, [], ◌∷◌, length, filter, if◌then◌else◌}
-use Rattle.std.specs.List.{filter_map, list_any, range_with_len, slice_get}
-use Rattle.std.specs.Option.{option_map_or}
+use Rattle.std.specs.Prelude.{ℕ, ℤ, pos, ◌==◌, ◌&&◌, not, Bool, true, List, [], ◌∷◌, length, filter, if◌then◌else◌}
+use Rattle.std.specs.List.{list_any, range_with_len}
 use Rattle.std.specs.Ordering.{int_eq}
+use Rattle.lq_records.specs.Places.{holds_at, items_at, list_at}
 use Rattle.lq_records.specs.declared.base.Base.{Base}
 use Rattle.lq_records.specs.declared.ids.HostId.{HostId}
 use Rattle.lq_records.specs.declared.ids.HostGroupId.{HostGroupId}
@@ -22,25 +22,22 @@ use Rattle.lq_columns.specs.declared.counted.Counted.TheVariants as counted
 
 -- the hosts that a group lists
 abbrev pub group_members : Base → HostGroupId → List HostId
-group_members base group =
-    option_map_or (λ group. group.members) (slice_get base.host_groups group.0) []
+group_members base group = list_at (λ group. group.members) base.host_groups group.0
 
 -- the services that a group lists
 abbrev pub service_members : Base → ServiceGroupId → List ServiceId
-service_members base group =
-    option_map_or (λ group. group.members) (slice_get base.service_groups group.0) []
+service_members base group = list_at (λ group. group.members) base.service_groups group.0
 
 -- the service at a place is one of a host that a group lists
 abbrev pub is_group_service : Base → HostGroupId → ℕ → Bool
 is_group_service base group place =
-    option_map_or (λ service. has_host (group_members base group) service.host)
-    (slice_get base.services place) false
+    holds_at (λ service. has_host (group_members base group) service.host) base.services place
 
 -- a group lists the service at a place
 abbrev pub group_lists : Base → ServiceGroupId → ℕ → Bool
 group_lists base group place =
-    option_map_or (λ group. list_any (λ member. member.0 == place) group.members)
-    (slice_get base.service_groups group.0) false
+    holds_at (λ group. list_any (λ member. member.0 == place) group.members) base.service_groups
+    group.0
 
 abbrev pub is_in_scope : Base → Scope → ℕ → Bool
 is_in_scope base (scope.Host id) place = is_service_of base id place
@@ -75,7 +72,7 @@ counts counted.Pending status = is_pending status
 counts (counted.In state) status = not (is_pending status) && int_eq status.state state
 
 abbrev pub counts_at : List Status → Counted → ℕ → Bool
-counts_at statuses which place = option_map_or (counts which) (slice_get statuses place) false
+counts_at statuses which place = holds_at (counts which) statuses place
 
 -- services and hosts that are seen
 abbrev pub services_counted : State → View → Scope → Counted → ℕ
@@ -110,11 +107,11 @@ worst_of order members = last_after 0 (filter (has_state members) order)
 abbrev pub worst_service : State → View → Scope → ℕ
 worst_service s view scope =
     worst_of (0 ∷ 1 ∷ 3 ∷ 2 ∷ [])
-    (filter_map (slice_get s.service_status) (seen_places s.base view scope))
+    (items_at s.service_status (λ place. place) (seen_places s.base view scope))
 
 -- the worst state of the hosts that a group lists and that are seen, in the order up, unreachable,
 -- down
 abbrev pub worst_host : State → View → HostGroupId → ℕ
 worst_host s view group =
     worst_of (0 ∷ 2 ∷ 1 ∷ [])
-    (filter_map (λ id. slice_get s.host_status id.0) (seen_members s.base view group))
+    (items_at s.host_status (λ id. id.0) (seen_members s.base view group))

@@ -1,11 +1,11 @@
--- The names that an object goes with. An id that names nothing drops out of a list.
+-- The names that an object goes with.
 use Rattle.std.specs.Prelude.{◌≡◌, ℕ, ◌==◌, Bool, false, Option, Some, None, List, [], ◌∷◌, ◌++◌, bytes_eq, nat_eq, map, filter, length, drop, if◌then◌else◌}
-use Rattle.std.specs.List.{filter_map, flat_map, list_any, range_with_len, slice_get, starts_with}
-use Rattle.std.specs.Option.{option_map, option_map_or}
+use Rattle.std.specs.List.{filter_map, flat_map, list_any, range_with_len, starts_with}
+use Rattle.std.specs.Option.{option_map_or}
+use Rattle.lq_records.specs.Places.{field_at, fields_at, holds_at, list_at}
 use Rattle.lq_records.specs.declared.base.Base.{Base}
 use Rattle.lq_records.specs.declared.base.ObjectFields.{ObjectFields}
 use Rattle.lq_records.specs.declared.base.Host.{Host}
-use Rattle.lq_records.specs.declared.base.Service.{Service}
 use Rattle.lq_records.specs.declared.base.HostGroup.{HostGroup}
 use Rattle.lq_records.specs.declared.base.ServiceGroup.{ServiceGroup}
 use Rattle.lq_records.specs.declared.ids.HostId.{HostId}
@@ -18,27 +18,18 @@ use Rattle.lq_auth.specs.Rights.{sees_host, sees_service}
 use Rattle.lq_auth.specs.declared.view.View.{View}
 use Rattle.lq_columns.specs.Distinct.{first_of_each}
 
--- ---- by their places
-
-abbrev pub name_of_host : Base → HostId → Option (List ℕ)
-name_of_host base id = option_map (λ host. host.host_name) (slice_get base.hosts id.0)
+-- ---- by their ids
 
 abbrev pub host_names_of : Base → List HostId → List (List ℕ)
-host_names_of base ids = filter_map (name_of_host base) ids
-
-abbrev pub name_of_contact : Base → ContactId → Option (List ℕ)
-name_of_contact base id =
-    option_map (λ contact. contact.contact_name) (slice_get base.contacts id.0)
+host_names_of base ids = fields_at (λ host. host.host_name) base.hosts (λ id. id.0) ids
 
 abbrev pub contact_names_of : Base → List ContactId → List (List ℕ)
-contact_names_of base ids = filter_map (name_of_contact base) ids
-
-abbrev pub name_of_contact_group : Base → ContactGroupId → Option (List ℕ)
-name_of_contact_group base id =
-    option_map (λ group. group.contactgroup_name) (slice_get base.contact_groups id.0)
+contact_names_of base ids =
+    fields_at (λ contact. contact.contact_name) base.contacts (λ id. id.0) ids
 
 abbrev pub contact_group_names_of : Base → List ContactGroupId → List (List ℕ)
-contact_group_names_of base ids = filter_map (name_of_contact_group base) ids
+contact_group_names_of base ids =
+    fields_at (λ group. group.contactgroup_name) base.contact_groups (λ id. id.0) ids
 
 -- ---- names that are looked for
 
@@ -53,7 +44,7 @@ is_named text name = option_map_or (λ own. bytes_eq own text) name false
 -- ---- contacts
 
 abbrev pub members_of : Base → ContactGroupId → List ContactId
-members_of base id = option_map_or (λ group. group.members) (slice_get base.contact_groups id.0) []
+members_of base id = list_at (λ group. group.members) base.contact_groups id.0
 
 -- the contacts at the object itself, then those of its contact groups, repeats dropped
 abbrev pub contacts_of : Base → ObjectFields → List ContactId
@@ -64,6 +55,9 @@ contacts_of base fields =
 abbrev pub is_contact : Option ContactId → ContactId → Bool
 is_contact None id = false
 is_contact (Some contact) id = id.0 == contact.0
+
+abbrev pub name_of_contact : Base → ContactId → Option (List ℕ)
+name_of_contact base id = field_at (λ contact. contact.contact_name) base.contacts id.0
 
 -- the contact with a name, None where there is none: no other id is that of a contact so named
 pub record IsContactNamed (base : Base) (name : List ℕ) (contact : Option ContactId) : Type 0 where
@@ -93,8 +87,7 @@ group_names_of base (object.Service id) = filter_map (name_with_service id) base
 
 -- whether a host names another one as parent
 abbrev pub is_child_of : Base → HostId → HostId → Bool
-is_child_of base id child =
-    option_map_or (λ host. has_host host.parents id) (slice_get base.hosts child.0) false
+is_child_of base id child = holds_at (λ host. has_host host.parents id) base.hosts child.0
 
 abbrev pub host_ids : Base → List HostId
 host_ids base = map (λ place. record { 0 = place }) (range_with_len 0 (length base.hosts))
@@ -112,8 +105,7 @@ parent_names_of base view host = host_names_of base (filter (sees_host view) hos
 
 -- the service at a place is one of a host
 abbrev pub is_service_of : Base → HostId → ℕ → Bool
-is_service_of base id place =
-    option_map_or (λ service. service.host.0 == id.0) (slice_get base.services place) false
+is_service_of base id place = holds_at (λ service. service.host.0 == id.0) base.services place
 
 abbrev pub service_ids : Base → List ServiceId
 service_ids base = map (λ place. record { 0 = place }) (range_with_len 0 (length base.services))
@@ -124,12 +116,10 @@ seen_services base view id =
     filter (sees_service view)
     (filter (λ service. is_service_of base id service.0) (service_ids base))
 
-abbrev pub description_of : Base → ServiceId → Option (List ℕ)
-description_of base id =
-    option_map (λ service. service.service_description) (slice_get base.services id.0)
-
 abbrev pub descriptions_of : Base → View → HostId → List (List ℕ)
-descriptions_of base view id = filter_map (description_of base) (seen_services base view id)
+descriptions_of base view id =
+    fields_at (λ service. service.service_description) base.services (λ id. id.0)
+    (seen_services base view id)
 
 -- ---- custom variables
 

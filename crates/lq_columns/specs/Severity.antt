@@ -1,16 +1,15 @@
 -- How the code finds the worst state: by the greatest severity of the members' states. No
 -- contract that a caller sees cites this.
 use Rattle.std.specs.Prelude.{ℕ, ℤ, pos, ◌==◌, List, if◌then◌else◌}
-use Rattle.std.specs.List.{slice_get}
-use Rattle.std.specs.Option.{option_map_or}
 use Rattle.std.specs.Ordering.{int_eq}
 use Rattle.lq_events.specs.declared.status.Status.{Status}
+use Rattle.lq_records.specs.Places.{number_at}
 use Rattle.lq_columns.specs.Counts.{state_of_member}
 
--- the severity of the object at a place, 0 where there is none
+-- the severity of the object at a place
 abbrev pub severity_at : (ℤ → ℕ) → List Status → ℕ → ℕ
 severity_at severity statuses place =
-    option_map_or (λ status. severity (state_of_member status)) (slice_get statuses place) 0
+    number_at (λ status. severity (state_of_member status)) statuses place
 
 -- from bad to good: critical, unknown, warning, ok
 abbrev pub service_severity : ℤ → ℕ

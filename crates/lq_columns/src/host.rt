@@ -1,10 +1,12 @@
-ghost use Rattle.std.specs.Prelude.{◌≡◌, ℕ, IfOk, IsOk, List};
+ghost use Rattle.std.specs.Prelude.{◌≡◌, ◌≢◌, ℕ, IfOk, IsOk, List, None, Some};
 ghost use Rattle.std.specs.Option.{IfSome, IsSome, option_map};
 ghost use Rattle.lq_auth.specs.declared.view.View.{View};
 ghost use Rattle.lq_live.specs.State.{State};
+ghost use Rattle.lq_schema.specs.declared.columns.OwnColumn.TheVariants as own;
+ghost use Rattle.lq_schema.specs.declared.host.HostColumn.{HostColumn};
 ghost use Rattle.lq_schema.specs.Kinds.{host_kind, own_kind};
-ghost use Rattle.lq_schema.specs.Value.{Number, Texts, Words, shown};
-ghost use Rattle.lq_columns.specs.Cells.{host_at, host_cell, host_record, host_value};
+ghost use Rattle.lq_schema.specs.Value.{Number, Texts, Words, empty_value, shown};
+ghost use Rattle.lq_columns.specs.Cells.{HostRecord, host_at, host_cell, host_record};
 ghost use Rattle.lq_columns.specs.Names.{IsContactNamed, contact_names_of, contacts_of, has_text};
 ghost use Rattle.lq_columns.specs.Plain.{HasNumbers, HasTexts, IsHeldByHost, IsPlain, IsSearchedAtHost};
 
@@ -155,7 +157,13 @@ pub fn host_value<'a>(
     id: HostId,
     view: &View,
 ) -> Result<Val<'a>, Memory>
-    ensures value { IfOk result (λ v. shown v ≡ host_value live.now.state view.now id c.own) }
+    ensures value { (about : HostRecord) (column : HostColumn)
+        → host_at live.now.state id ≡ Some about → c.own ≡ own.Host column
+        → IfOk result (λ v. shown v ≡ host_cell live.now.state view.now about column) }
+    ensures nothing { host_at live.now.state id ≡ None
+        → IfOk result (λ v. shown v ≡ empty_value (own_kind c.own)) }
+    ensures other { ((column : HostColumn) → c.own ≢ own.Host column)
+        → IfOk result (λ v. shown v ≡ empty_value (own_kind c.own)) }
     ensures plain { IsPlain (own_kind c.own) → IsOk result }
 {
     let OwnColumn::Host(column) = c.own else {

@@ -1,7 +1,8 @@
 ghost use Rattle.std.specs.Prelude.{◌≡◌, ◌++◌, ◌<◌, ◌^◌, ℕ, IfOk, List, OnOk, Option, filter_map, length, map, option_to_list};
+ghost use Rattle.lq_records.specs.Places.{field_at};
 ghost use Rattle.lq_records.specs.declared.base.Base.{Base};
 ghost use Rattle.std.specs.Option.{option_copied};
-ghost use Rattle.lq_columns.specs.Names.{child_names_of, description_of, descriptions_of, group_names_of, has_host, has_service, has_text, is_child_of, is_named, name_of_contact, name_of_contact_group, name_of_host, name_with_host, name_with_service, parent_names_of, seen_children, seen_services, variable_names_of, variable_values_of, without_underscore};
+ghost use Rattle.lq_columns.specs.Names.{child_names_of, descriptions_of, group_names_of, has_host, has_service, has_text, is_child_of, is_named, name_of_contact, name_with_host, name_with_service, parent_names_of, seen_children, seen_services, variable_names_of, variable_values_of, without_underscore};
 
 use crate::selection::is_service_of;
 use lq_auth::View;
@@ -23,7 +24,7 @@ pub trait Named: Copy {
 }
 
 impl Named for HostId {
-    ghost name_of = { name_of_host };
+    ghost name_of = { λ base id. field_at (λ host. host.host_name) base.hosts id.0 };
 
     fn name(self, base: &Base) -> Option<&Text> {
         match base.hosts.as_slice().get(self.0 as usize) {
@@ -34,7 +35,8 @@ impl Named for HostId {
 }
 
 impl Named for ServiceId {
-    ghost name_of = { description_of };
+    ghost name_of = { λ base id.
+        field_at (λ service. service.service_description) base.services id.0 };
 
     fn name(self, base: &Base) -> Option<&Text> {
         match base.services.as_slice().get(self.0 as usize) {
@@ -56,7 +58,8 @@ impl Named for ContactId {
 }
 
 impl Named for ContactGroupId {
-    ghost name_of = { name_of_contact_group };
+    ghost name_of = { λ base id.
+        field_at (λ group. group.contactgroup_name) base.contact_groups id.0 };
 
     fn name(self, base: &Base) -> Option<&Text> {
         match base.contact_groups.as_slice().get(self.0 as usize) {

@@ -3,7 +3,7 @@ ghost use Rattle.std.specs.Option.{IfSome, IsSome};
 ghost use Rattle.lq_schema.specs.Kinds.{object_kind};
 ghost use Rattle.lq_schema.specs.Value.{Number, Texts, Words, shown};
 ghost use Rattle.lq_columns.specs.Cells.{object_cell};
-ghost use Rattle.lq_columns.specs.Names.{contact_names_of, contacts_of, has_text};
+ghost use Rattle.lq_columns.specs.Names.{contact_group_names_of, contact_names_of, contacts_of, has_text};
 ghost use Rattle.lq_columns.specs.Plain.{HasNumbers, HasTexts, IsPlain, IsSearched};
 ghost use Rattle.lq_records.specs.declared.base.Base.{Base};
 ghost use Rattle.lq_records.specs.declared.object.Object.{Object};
@@ -96,9 +96,7 @@ impl<'a> Monitored<'a> {
             ObjectColumn::ActionUrl => Val::Str(fields.action_url.as_str()),
             ObjectColumn::IconImage => Val::Str(fields.icon_image.as_str()),
             ObjectColumn::Contacts => Val::List(all_contact_names(alloc, base, fields)?),
-            ObjectColumn::ContactGroups => {
-                Val::List(names_of(alloc, base, fields.contact_groups.as_slice())?)
-            }
+            ObjectColumn::ContactGroups => Val::List(contact_group_names(alloc, base, fields)?),
             ObjectColumn::Groups => Val::List(group_names(alloc, base, self.about)?),
             ObjectColumn::CustomVariableNames => Val::List(variable_names(alloc, fields)?),
             ObjectColumn::CustomVariableValues => Val::List(variable_values(alloc, fields)?),
@@ -117,4 +115,16 @@ fn all_contact_names(
 {
     let ids = contacts_of(alloc, base, fields)?;
     names_of(alloc, base, &ids)
+}
+
+/// The names of the contact groups of an object.
+fn contact_group_names(
+    alloc: Global,
+    base: &Base,
+    fields: &ObjectFields,
+) -> Result<Items<Text>, Memory>
+    ensures { IfOk result (λ names.
+        names ≡ contact_group_names_of base.now fields.now.contact_groups) }
+{
+    names_of(alloc, base, fields.contact_groups.as_slice())
 }

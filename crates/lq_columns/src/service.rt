@@ -1,9 +1,11 @@
-ghost use Rattle.std.specs.Prelude.{◌≡◌, ℕ, IfOk, IsOk, List};
+ghost use Rattle.std.specs.Prelude.{◌≡◌, ◌≢◌, ℕ, IfOk, IsOk, List, None, Some};
 ghost use Rattle.std.specs.Option.{IfSome, IsSome, option_map};
 ghost use Rattle.lq_live.specs.State.{State};
+ghost use Rattle.lq_schema.specs.declared.columns.OwnColumn.TheVariants as own;
+ghost use Rattle.lq_schema.specs.declared.service.ServiceColumn.{ServiceColumn};
 ghost use Rattle.lq_schema.specs.Kinds.{service_kind, own_kind};
-ghost use Rattle.lq_schema.specs.Value.{Number, Texts, Words, shown};
-ghost use Rattle.lq_columns.specs.Cells.{service_at, service_cell, service_record, service_value};
+ghost use Rattle.lq_schema.specs.Value.{Number, Texts, Words, empty_value, shown};
+ghost use Rattle.lq_columns.specs.Cells.{ServiceRecord, service_at, service_cell, service_record};
 ghost use Rattle.lq_columns.specs.Names.{IsContactNamed, contact_names_of, contacts_of, has_text};
 ghost use Rattle.lq_columns.specs.Plain.{HasNumbers, HasTexts, IsHeldByService, IsPlain, IsSearchedAtService};
 
@@ -139,7 +141,13 @@ pub fn service_value<'a>(
     id: ServiceId,
     _view: &View,
 ) -> Result<Val<'a>, Memory>
-    ensures value { IfOk result (λ v. shown v ≡ service_value live.now.state id c.own) }
+    ensures value { (about : ServiceRecord) (column : ServiceColumn)
+        → service_at live.now.state id ≡ Some about → c.own ≡ own.Service column
+        → IfOk result (λ v. shown v ≡ service_cell live.now.state about column) }
+    ensures nothing { service_at live.now.state id ≡ None
+        → IfOk result (λ v. shown v ≡ empty_value (own_kind c.own)) }
+    ensures other { ((column : ServiceColumn) → c.own ≢ own.Service column)
+        → IfOk result (λ v. shown v ≡ empty_value (own_kind c.own)) }
     ensures plain { IsPlain (own_kind c.own) → IsOk result }
 {
     let OwnColumn::Service(column) = c.own else {

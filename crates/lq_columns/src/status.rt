@@ -109,7 +109,7 @@ fn is_in_period(live: &Live, about: Object) -> bool
 }
 
 /// The name of the time period in which people are notified about an object.
-fn period_of(base: &Base, about: Object) -> &str
+pub fn period_of(base: &Base, about: Object) -> &str
     ensures { result.now ≡ period_of base.now about }
 {
     let fields = match about {

@@ -124,8 +124,8 @@ module _ (s t : State) (view : View) (agree : AgreesIn view s (like s t)) (windo
   cells_of_row each about here there shown downtime comment line slice (own.Service column) =
       ap (λ found. service_part s (option_and_then (service_of_object s) found) column) here ∙ service_column_same s t view agree about shown column
       ∙ sym (ap (λ found. service_part (like s t) (option_and_then (service_of_object (like s t)) found) column) there)
-  cells_of_row each about here there shown downtime comment line slice (own.HostGroup column) = host_group_same s t view agree (row_host_group each) column
-  cells_of_row each about here there shown downtime comment line slice (own.ServiceGroup column) = service_group_same s t view agree (row_service_group each) column
+  cells_of_row each about here there shown downtime comment line slice (own.HostGroup column) = host_group_same s t view agree (row_host_group s.base each) column
+  cells_of_row each about here there shown downtime comment line slice (own.ServiceGroup column) = service_group_same s t view agree (row_service_group s.base each) column
   cells_of_row each about here there shown downtime comment line slice (own.Downtime column) = ap (λ found. downtime_cell found column) downtime
   cells_of_row each about here there shown downtime comment line slice (own.Comment column) = ap (λ found. comment_cell found column) comment
   cells_of_row each about here there shown downtime comment line slice (own.Line column) = ap (λ found. line_cell found column) line

@@ -7,12 +7,9 @@ use Rattle.std.proofs.lemmas.List.Folds.{list_any_at}
 use Rattle.std.proofs.lemmas.List.FromFn.{get_or-range_with_len, length-range_with_len}
 use Rattle.std.proofs.lemmas.Option.{slice_get_within}
 use Rattle.lq_records.specs.declared.base.Host.{Host}
-use Rattle.lq_records.specs.declared.base.HostGroup.{HostGroup}
 use Rattle.lq_records.specs.declared.base.Service.{Service}
-use Rattle.lq_records.specs.declared.base.ServiceGroup.{ServiceGroup}
 use Rattle.lq_records.specs.declared.ids.HostGroupId.{HostGroupId}
 use Rattle.lq_records.specs.declared.ids.HostId.{HostId}
-use Rattle.lq_records.specs.declared.ids.ServiceGroupId.{ServiceGroupId}
 use Rattle.lq_records.specs.declared.ids.ServiceId.{ServiceId}
 use Rattle.lq_records.specs.declared.object.Object.{Object}
 use Rattle.lq_records.specs.declared.object.Object.TheVariants as object
@@ -43,7 +40,7 @@ use Rattle.lq_columns.specs.Counts.{group_members, scope_places, seen_members, s
 use Rattle.lq_columns.specs.Names.{is_service_of}
 use Rattle.lq_columns.specs.declared.scope.Scope.{Scope}
 use Rattle.lq_columns.specs.declared.scope.Scope.TheVariants as scope
-use Rattle.lq_tables.specs.About.{host_of_object, service_of_object}
+use Rattle.lq_tables.specs.About.{HostGroupRecord, ServiceGroupRecord, host_of_object, service_of_object}
 use Rattle.lq_tables.specs.Cells.{host_group_cell, host_group_part, host_part, service_group_cell, service_group_part, service_part}
 use Rattle.lq_query.specs.Isolation.{AgreesIn, is_shown}
 use Rattle.lq_query.proofs.KeptLemmas.{filter_kept, filter_map_kept, kept_of_same}
@@ -264,23 +261,19 @@ module _ (s t : State) (view : View) (agree : AgreesIn view s (like s t)) where
   service_column_same (Some about) shown column =
       service_part_same (service_of_object s about) (service_of_shown about shown) column ∙ ap (λ found. service_part (like s t) found column) (service_of_same about shown)
 
-  host_group_cell_same : (id : HostGroupId) (group : Option HostGroup) (column : HostGroupColumn)
-      → host_group_cell s view id group column ≡ host_group_cell (like s t) view id group column
-  host_group_cell_same id None column = refl
-  host_group_cell_same id (Some group) (host_group.Hosts column) = hosts_same id column
-  host_group_cell_same id (Some group) (host_group.Services column) = services_same (scope.HostGroup id) column
-  host_group_cell_same id (Some group) _ = refl
+  host_group_cell_same : (about : HostGroupRecord) (column : HostGroupColumn) → host_group_cell s view about column ≡ host_group_cell (like s t) view about column
+  host_group_cell_same about (host_group.Hosts column) = hosts_same about.id column
+  host_group_cell_same about (host_group.Services column) = services_same (scope.HostGroup about.id) column
+  host_group_cell_same about _ = refl
 
-  pub host_group_same : (id : Option HostGroupId) (column : HostGroupColumn) → host_group_part s view id column ≡ host_group_part (like s t) view id column
+  pub host_group_same : (found : Option HostGroupRecord) (column : HostGroupColumn) → host_group_part s view found column ≡ host_group_part (like s t) view found column
   host_group_same None column = refl
-  host_group_same (Some id) column = host_group_cell_same id (slice_get s.base.host_groups id.0) column
+  host_group_same (Some about) column = host_group_cell_same about column
 
-  service_group_cell_same : (id : ServiceGroupId) (group : Option ServiceGroup) (column : ServiceGroupColumn)
-      → service_group_cell s view id group column ≡ service_group_cell (like s t) view id group column
-  service_group_cell_same id None column = refl
-  service_group_cell_same id (Some group) (service_group.Services column) = services_same (scope.ServiceGroup id) column
-  service_group_cell_same id (Some group) _ = refl
+  service_group_cell_same : (about : ServiceGroupRecord) (column : ServiceGroupColumn) → service_group_cell s view about column ≡ service_group_cell (like s t) view about column
+  service_group_cell_same about (service_group.Services column) = services_same (scope.ServiceGroup about.id) column
+  service_group_cell_same about _ = refl
 
-  pub service_group_same : (id : Option ServiceGroupId) (column : ServiceGroupColumn) → service_group_part s view id column ≡ service_group_part (like s t) view id column
+  pub service_group_same : (found : Option ServiceGroupRecord) (column : ServiceGroupColumn) → service_group_part s view found column ≡ service_group_part (like s t) view found column
   service_group_same None column = refl
-  service_group_same (Some id) column = service_group_cell_same id (slice_get s.base.service_groups id.0) column
+  service_group_same (Some about) column = service_group_cell_same about column

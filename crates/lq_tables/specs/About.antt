@@ -2,11 +2,14 @@
 use Rattle.std.specs.Prelude.{◌≡◌, ℕ, ◌==◌, Option, Some, None, List}
 use Rattle.std.specs.List.{find, slice_get}
 use Rattle.std.specs.Option.{IsSome, option_map, option_and_then}
+use Rattle.lq_records.specs.Places.{field_at, found_at}
 use Rattle.lq_records.specs.declared.base.Base.{Base}
 use Rattle.lq_records.specs.declared.base.Command.{Command}
 use Rattle.lq_records.specs.declared.base.Contact.{Contact}
 use Rattle.lq_records.specs.declared.base.ContactGroup.{ContactGroup}
+use Rattle.lq_records.specs.declared.base.HostGroup.{HostGroup}
 use Rattle.lq_records.specs.declared.base.Period.{Period}
+use Rattle.lq_records.specs.declared.base.ServiceGroup.{ServiceGroup}
 use Rattle.lq_records.specs.declared.ids.HostGroupId.{HostGroupId}
 use Rattle.lq_records.specs.declared.ids.ServiceGroupId.{ServiceGroupId}
 use Rattle.lq_events.specs.declared.log_entry.LogEntry.{LogEntry}
@@ -68,7 +71,7 @@ row_object s (row.GroupService group id) = Some (object.Service id)
 row_object s (row.Downtime id) =
     option_map (λ downtime. downtime.object) (downtime_with id s.downtimes)
 row_object s (row.Comment id) = option_map (λ comment. comment.object) (comment_with id s.comments)
-row_object s (row.Line place) = option_and_then (object_of s.base) (slice_get s.log place)
+row_object s (row.Line place) = found_at (object_of s.base) s.log place
 row_object s (row.Slice history) = Some history.slice.object
 row_object s row = None
 
@@ -117,18 +120,48 @@ pub record IsAbout (s : State) (row : Row) (subjects : Subjects) : Type 0 where
   pub comment_found : subjects.comment ≡ row_comment s row
   pub line_found : subjects.line ≡ row_line s row
 
+-- ---- groups
+
+-- a group of hosts: its id, and what the object file says of it
+pub record HostGroupRecord : Type 0 where
+  pub id : HostGroupId
+  pub group : HostGroup
+
+-- the group of hosts with an id
+abbrev pub host_group_at : Base → HostGroupId → Option HostGroupRecord
+host_group_at base id =
+    field_at (λ group. record { id = id; group = group }) base.host_groups id.0
+
+abbrev pub row_host_group_id : Row → Option HostGroupId
+row_host_group_id (row.HostGroup id) = Some id
+row_host_group_id (row.HostOf id host) = Some id
+row_host_group_id (row.GroupService id service) = Some id
+row_host_group_id row = None
+
+-- the group of hosts that a row is about, alone or beside a host or a service
+abbrev pub row_host_group : Base → Row → Option HostGroupRecord
+row_host_group base row = option_and_then (host_group_at base) (row_host_group_id row)
+
+-- a group of services: its id, and what the object file says of it
+pub record ServiceGroupRecord : Type 0 where
+  pub id : ServiceGroupId
+  pub group : ServiceGroup
+
+-- the group of services with an id
+abbrev pub service_group_at : Base → ServiceGroupId → Option ServiceGroupRecord
+service_group_at base id =
+    field_at (λ group. record { id = id; group = group }) base.service_groups id.0
+
+abbrev pub row_service_group_id : Row → Option ServiceGroupId
+row_service_group_id (row.ServiceGroup id) = Some id
+row_service_group_id (row.ServiceOf id service) = Some id
+row_service_group_id row = None
+
+-- the group of services that a row is about, alone or beside a service
+abbrev pub row_service_group : Base → Row → Option ServiceGroupRecord
+row_service_group base row = option_and_then (service_group_at base) (row_service_group_id row)
+
 -- ---- the rest of the base
-
-abbrev pub row_host_group : Row → Option HostGroupId
-row_host_group (row.HostGroup id) = Some id
-row_host_group (row.HostOf id host) = Some id
-row_host_group (row.GroupService id service) = Some id
-row_host_group row = None
-
-abbrev pub row_service_group : Row → Option ServiceGroupId
-row_service_group (row.ServiceGroup id) = Some id
-row_service_group (row.ServiceOf id service) = Some id
-row_service_group row = None
 
 abbrev pub row_contact : Base → Row → Option Contact
 row_contact base (row.Contact id) = slice_get base.contacts id.0

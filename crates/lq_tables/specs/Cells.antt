@@ -1,10 +1,7 @@
 -- The value of each cell.
 use Rattle.std.specs.Prelude.{Option, Some, None, filter}
-use Rattle.std.specs.List.{filter_map, slice_get}
 use Rattle.lq_records.specs.declared.base.Base.{Base}
 use Rattle.lq_records.specs.declared.base.ContactGroup.{ContactGroup}
-use Rattle.lq_records.specs.declared.base.HostGroup.{HostGroup}
-use Rattle.lq_records.specs.declared.base.ServiceGroup.{ServiceGroup}
 use Rattle.lq_schema.specs.declared.columns.Col.{Col}
 use Rattle.lq_schema.specs.declared.contact_group.ContactGroupColumn.{ContactGroupColumn}
 use Rattle.lq_schema.specs.declared.contact_group.ContactGroupColumn.TheVariants as contact_group
@@ -16,8 +13,6 @@ use Rattle.lq_schema.specs.declared.columns.OwnColumn.TheVariants as own
 use Rattle.lq_schema.specs.declared.service.ServiceColumn.{ServiceColumn}
 use Rattle.lq_schema.specs.declared.service_group.ServiceGroupColumn.{ServiceGroupColumn}
 use Rattle.lq_schema.specs.declared.service_group.ServiceGroupColumn.TheVariants as service_group
-use Rattle.lq_records.specs.declared.ids.HostGroupId.{HostGroupId}
-use Rattle.lq_records.specs.declared.ids.ServiceGroupId.{ServiceGroupId}
 use Rattle.lq_schema.specs.Kinds.{contact_group_kind, host_group_kind, host_kind, service_group_kind, service_kind}
 use Rattle.lq_schema.specs.Value.{Value, Words, Texts, Pairs, empty_value}
 use Rattle.lq_live.specs.State.{State}
@@ -26,9 +21,9 @@ use Rattle.lq_auth.specs.declared.view.View.{View}
 use Rattle.lq_columns.specs.Names.{contact_names_of, host_names_of}
 use Rattle.lq_columns.specs.Cells.{HostRecord, ServiceRecord, host_cell, hosts_cell, service_cell, services_cell}
 use Rattle.lq_columns.specs.declared.scope.Scope.TheVariants as scope
-use Rattle.lq_tables.specs.About.{row_command, row_comment, row_contact, row_contact_group, row_downtime, row_entry, row_host, row_host_group, row_line, row_period, row_service, row_service_group, row_slice}
+use Rattle.lq_tables.specs.About.{HostGroupRecord, ServiceGroupRecord, row_command, row_comment, row_contact, row_contact_group, row_downtime, row_entry, row_host, row_host_group, row_line, row_period, row_service, row_service_group, row_slice}
 use Rattle.lq_tables.specs.declared.row.Row.{Row}
-use Rattle.lq_tables.specs.Parts.{command_cell, comment_cell, contact_cell, downtime_cell, line_cell, pair_at, period_cell, program_part, schema_cell}
+use Rattle.lq_tables.specs.Parts.{command_cell, comment_cell, contact_cell, downtime_cell, line_cell, pairs_of, period_cell, program_part, schema_cell}
 use Rattle.lq_tables.specs.Slices.{slice_cell}
 
 -- ---- groups
@@ -41,41 +36,37 @@ contact_group_cell base (Some group) contact_group.Members =
     Texts (contact_names_of base group.members)
 
 -- of the hosts and services of a group those that are seen
-abbrev pub host_group_cell : State → View → HostGroupId → Option HostGroup → HostGroupColumn → Value
-host_group_cell s view id None column = empty_value (host_group_kind column)
-host_group_cell s view id (Some group) host_group.Name = Words group.hostgroup_name
-host_group_cell s view id (Some group) host_group.Alias = Words group.alias
-host_group_cell s view id (Some group) host_group.Notes = Words group.notes
-host_group_cell s view id (Some group) host_group.NotesUrl = Words group.notes_url
-host_group_cell s view id (Some group) host_group.ActionUrl = Words group.action_url
-host_group_cell s view id (Some group) host_group.Members =
-    Texts (host_names_of s.base (filter (sees_host view) group.members))
-host_group_cell s view id (Some group) (host_group.Hosts column) = hosts_cell s view id column
-host_group_cell s view id (Some group) (host_group.Services column) =
-    services_cell s view (scope.HostGroup id) column
+abbrev pub host_group_cell : State → View → HostGroupRecord → HostGroupColumn → Value
+host_group_cell s view about host_group.Name = Words about.group.hostgroup_name
+host_group_cell s view about host_group.Alias = Words about.group.alias
+host_group_cell s view about host_group.Notes = Words about.group.notes
+host_group_cell s view about host_group.NotesUrl = Words about.group.notes_url
+host_group_cell s view about host_group.ActionUrl = Words about.group.action_url
+host_group_cell s view about host_group.Members =
+    Texts (host_names_of s.base (filter (sees_host view) about.group.members))
+host_group_cell s view about (host_group.Hosts column) = hosts_cell s view about.id column
+host_group_cell s view about (host_group.Services column) =
+    services_cell s view (scope.HostGroup about.id) column
 
-abbrev pub host_group_part : State → View → Option HostGroupId → HostGroupColumn → Value
+abbrev pub host_group_part : State → View → Option HostGroupRecord → HostGroupColumn → Value
 host_group_part s view None column = empty_value (host_group_kind column)
-host_group_part s view (Some id) column =
-    host_group_cell s view id (slice_get s.base.host_groups id.0) column
+host_group_part s view (Some about) column = host_group_cell s view about column
 
-abbrev pub service_group_cell : State → View → ServiceGroupId → Option ServiceGroup
-    → ServiceGroupColumn → Value
-service_group_cell s view id None column = empty_value (service_group_kind column)
-service_group_cell s view id (Some group) service_group.Name = Words group.servicegroup_name
-service_group_cell s view id (Some group) service_group.Alias = Words group.alias
-service_group_cell s view id (Some group) service_group.Notes = Words group.notes
-service_group_cell s view id (Some group) service_group.NotesUrl = Words group.notes_url
-service_group_cell s view id (Some group) service_group.ActionUrl = Words group.action_url
-service_group_cell s view id (Some group) service_group.Members =
-    Pairs (filter_map (pair_at s.base) (filter (sees_service view) group.members))
-service_group_cell s view id (Some group) (service_group.Services column) =
-    services_cell s view (scope.ServiceGroup id) column
+abbrev pub service_group_cell : State → View → ServiceGroupRecord → ServiceGroupColumn → Value
+service_group_cell s view about service_group.Name = Words about.group.servicegroup_name
+service_group_cell s view about service_group.Alias = Words about.group.alias
+service_group_cell s view about service_group.Notes = Words about.group.notes
+service_group_cell s view about service_group.NotesUrl = Words about.group.notes_url
+service_group_cell s view about service_group.ActionUrl = Words about.group.action_url
+service_group_cell s view about service_group.Members =
+    Pairs (pairs_of s.base (filter (sees_service view) about.group.members))
+service_group_cell s view about (service_group.Services column) =
+    services_cell s view (scope.ServiceGroup about.id) column
 
-abbrev pub service_group_part : State → View → Option ServiceGroupId → ServiceGroupColumn → Value
+abbrev pub service_group_part : State → View → Option ServiceGroupRecord → ServiceGroupColumn
+    → Value
 service_group_part s view None column = empty_value (service_group_kind column)
-service_group_part s view (Some id) column =
-    service_group_cell s view id (slice_get s.base.service_groups id.0) column
+service_group_part s view (Some about) column = service_group_cell s view about column
 
 -- ---- hosts and services
 
@@ -95,9 +86,9 @@ abbrev pub own_cell : State → View → Row → OwnColumn → Value
 own_cell s view row (own.Host column) = host_part s view (row_host s row) column
 own_cell s view row (own.Service column) = service_part s (row_service s row) column
 own_cell s view row (own.HostGroup column) =
-    host_group_part s view (row_host_group row) column
+    host_group_part s view (row_host_group s.base row) column
 own_cell s view row (own.ServiceGroup column) =
-    service_group_part s view (row_service_group row) column
+    service_group_part s view (row_service_group s.base row) column
 own_cell s view row (own.Contact column) = contact_cell (row_contact s.base row) column
 own_cell s view row (own.ContactGroup column) =
     contact_group_cell s.base (row_contact_group s.base row) column

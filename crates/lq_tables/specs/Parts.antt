@@ -1,8 +1,7 @@
 -- The values of the columns on contacts, commands, time periods, downtimes, comments, lines of the
 -- log, the program and the schema.
 use Rattle.std.specs.Prelude.{ℕ, Option, Some, None, List, length, codes}
-use Rattle.std.specs.List.{slice_get}
-use Rattle.std.specs.Option.{option_map, option_and_then}
+use Rattle.lq_records.specs.Places.{all_found_at, field_at}
 use Rattle.lq_records.specs.declared.base.Base.{Base}
 use Rattle.lq_records.specs.declared.base.Command.{Command}
 use Rattle.lq_records.specs.declared.base.Contact.{Contact}
@@ -150,8 +149,8 @@ schema_cell (Some entry) schema.Description = Words (full_name entry.column)
 -- the names of a service: its host's, and its description
 abbrev pub pair_of : Base → Service → Option (List ℕ × List ℕ)
 pair_of base service =
-    option_map (λ host. (host.host_name, service.service_description))
-    (slice_get base.hosts service.host.0)
+    field_at (λ host. (host.host_name, service.service_description)) base.hosts service.host.0
 
-abbrev pub pair_at : Base → ServiceId → Option (List ℕ × List ℕ)
-pair_at base id = option_and_then (pair_of base) (slice_get base.services id.0)
+-- those of services, by their ids
+abbrev pub pairs_of : Base → List ServiceId → List (List ℕ × List ℕ)
+pairs_of base ids = all_found_at (pair_of base) base.services (λ id. id.0) ids

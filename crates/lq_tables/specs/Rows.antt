@@ -1,7 +1,8 @@
 -- The rows of each table, in order.
 use Rattle.std.specs.Prelude.{ℕ, ◌==◌, ◌&&◌, nat_le, nat_lt, Bool, true, false, List, [], ◌∷◌, length, map, filter}
-use Rattle.std.specs.List.{enumerate_from, flat_map, range_with_len, slice_get}
+use Rattle.std.specs.List.{enumerate_from, flat_map, range_with_len}
 use Rattle.std.specs.Option.{option_map_or}
+use Rattle.lq_records.specs.Places.{holds_at}
 use Rattle.lq_records.specs.declared.base.Base.{Base}
 use Rattle.lq_records.specs.declared.base.HostGroup.{HostGroup}
 use Rattle.lq_records.specs.declared.base.Service.{Service}
@@ -45,8 +46,7 @@ service_group_rows (place, group) = map (row.ServiceOf (record { 0 = place })) g
 
 -- whether the service at a place runs on a host
 abbrev pub runs_on : List Service → HostId → ℕ → Bool
-runs_on services host place =
-    option_map_or (λ service. service.host.0 == host.0) (slice_get services place) false
+runs_on services host place = holds_at (λ service. service.host.0 == host.0) services place
 
 -- a host's services, in the order of the base
 abbrev pub service_rows : List Service → HostGroupId → HostId → List Row
@@ -66,7 +66,7 @@ is_within window line = nat_le window.from line.time && nat_lt line.time window.
 
 -- whether that of the line at a place is
 abbrev pub has_line_within : Window → List LogEntry → ℕ → Bool
-has_line_within window log place = option_map_or (is_within window) (slice_get log place) false
+has_line_within window log place = holds_at (is_within window) log place
 
 -- a slice of a history over the interval of a window
 abbrev pub history_row : Window → Slice → Row

@@ -1,11 +1,9 @@
 -- The values of the columns on slices of histories.
 use Rattle.std.specs.Prelude.{ℕ, ◌-◌, ◌*◌, ◌/◌, ◌==◌, ℤ, pos, negsuc, Option, Some, None, List, [], if◌then◌else◌}
-use Rattle.std.specs.List.{slice_get}
-use Rattle.std.specs.Option.{option_and_then, option_map_or}
 use Rattle.std.specs.Ordering.{int_eq}
+use Rattle.lq_records.specs.Places.{list_at}
 use Rattle.lq_records.specs.declared.base.Base.{Base}
-use Rattle.lq_records.specs.declared.base.Host.{Host}
-use Rattle.lq_records.specs.declared.base.Service.{Service}
+use Rattle.lq_records.specs.declared.ids.HostId.{HostId}
 use Rattle.lq_records.specs.declared.object.Object.{Object}
 use Rattle.lq_records.specs.declared.object.Object.TheVariants as object
 use Rattle.lq_events.specs.declared.log_entry.LogEntry.{LogEntry}
@@ -15,7 +13,7 @@ use Rattle.lq_schema.specs.Kinds.{slice_kind}
 use Rattle.lq_schema.specs.Value.{Value, Number, Words, empty_value}
 use Rattle.lq_statehist.specs.declared.slice.Slice.{Slice}
 use Rattle.lq_live.specs.State.{State}
-use Rattle.lq_columns.specs.Cells.{flag, natural}
+use Rattle.lq_columns.specs.Cells.{flag, natural, period_of}
 use Rattle.lq_tables.specs.declared.history_row.HistoryRow.{HistoryRow}
 
 -- ---- seconds
@@ -38,37 +36,26 @@ part_of row = millionths (duration_of row.slice) (row.until - row.from)
 
 -- ---- what a slice is of
 
--- the service itself
-abbrev pub service_of : Base → Object → Option Service
-service_of base (object.Host id) = None
-service_of base (object.Service id) = slice_get base.services id.0
+-- the name of the host with an id
+abbrev pub name_of_host : Base → HostId → List ℕ
+name_of_host base id = list_at (λ host. host.host_name) base.hosts id.0
 
--- the host itself, or the one that the service runs on
-abbrev pub host_of : Base → Object → Option Host
-host_of base (object.Host id) = slice_get base.hosts id.0
-host_of base (object.Service id) =
-    option_and_then (λ service. slice_get base.hosts service.host.0) (slice_get base.services id.0)
-
+-- the name of the host itself, or of the one that the service runs on
 abbrev pub host_name_of : Base → Object → List ℕ
-host_name_of base about = option_map_or (λ host. host.host_name) (host_of base about) []
+host_name_of base (object.Host id) = name_of_host base id
+host_name_of base (object.Service id) =
+    list_at (λ service. name_of_host base service.host) base.services id.0
 
 -- empty for a host
 abbrev pub description_of : Base → Object → List ℕ
-description_of base about =
-    option_map_or (λ service. service.service_description) (service_of base about) []
-
--- the name of the time period in which people are notified about an object
-abbrev pub period_of : Base → Object → List ℕ
-period_of base (object.Host id) =
-    option_map_or (λ host. host.fields.notification_period) (slice_get base.hosts id.0) []
-period_of base (object.Service id) =
-    option_map_or (λ service. service.fields.notification_period)
-    (slice_get base.services id.0) []
+description_of base (object.Host id) = []
+description_of base (object.Service id) =
+    list_at (λ service. service.service_description) base.services id.0
 
 -- the output of the line at a place of the log, empty without a line
 abbrev pub output_at : List LogEntry → Option ℕ → List ℕ
 output_at log None = []
-output_at log (Some place) = option_map_or (λ line. line.output) (slice_get log place) []
+output_at log (Some place) = list_at (λ line. line.output) log place
 
 -- ---- all columns
 

@@ -4,7 +4,7 @@ ghost use Rattle.std.specs.Prelude.{◌≡◌};
 ghost use Rattle.std.specs.List.{slice_get};
 ghost use Rattle.std.specs.Option.{option_and_then, option_copied, option_map};
 ghost use Rattle.lq_columns.specs.Cells.{host_record, service_record};
-ghost use Rattle.lq_tables.specs.About.{comment_with, downtime_with, host_of_object, row_command, row_comment, row_contact, row_contact_group, row_downtime, row_entry, row_host_group, row_line, row_object, row_period, row_service_group, row_slice, service_of_object};
+ghost use Rattle.lq_tables.specs.About.{comment_with, downtime_with, host_of_object, row_command, row_comment, row_contact, row_contact_group, row_downtime, row_entry, row_host_group_id, row_line, row_object, row_period, row_service_group_id, row_slice, service_of_object};
 
 use crate::history_row::HistoryRow;
 use crate::row::Row;
@@ -139,10 +139,10 @@ pub(crate) fn host_of(live: &Live, object: Option<Object>) -> Option<HostRow<'_>
     }
 }
 
-// ---- the rest of the base
+// ---- groups
 
-pub(crate) fn row_host_group(row: &Row) -> Option<HostGroupId>
-    ensures { result ≡ row_host_group row.now }
+pub(crate) fn row_host_group_id(row: &Row) -> Option<HostGroupId>
+    ensures { result ≡ row_host_group_id row.now }
 {
     match row {
         Row::HostGroup(id) | Row::HostOf(id, _) | Row::GroupService(id, _) => Some(*id),
@@ -150,14 +150,16 @@ pub(crate) fn row_host_group(row: &Row) -> Option<HostGroupId>
     }
 }
 
-pub(crate) fn row_service_group(row: &Row) -> Option<ServiceGroupId>
-    ensures { result ≡ row_service_group row.now }
+pub(crate) fn row_service_group_id(row: &Row) -> Option<ServiceGroupId>
+    ensures { result ≡ row_service_group_id row.now }
 {
     match row {
         Row::ServiceGroup(id) | Row::ServiceOf(id, _) => Some(*id),
         _ => None,
     }
 }
+
+// ---- the rest of the base
 
 pub(crate) fn row_contact<'a>(base: &'a Base, row: &Row) -> Option<&'a Contact>
     ensures { option_copied result ≡ row_contact base.now row.now }

@@ -18,7 +18,8 @@ ghost use Rattle.lq_tables.specs.Statuses.{AreOfHosts, AreOfServices};
 
 use crate::about::{
     host_of, row_command, row_comment, row_contact, row_contact_group, row_downtime, row_entry,
-    row_host_group, row_line, row_object, row_period, row_service_group, row_slice, service_of,
+    row_host_group_id, row_line, row_object, row_period, row_service_group_id, row_slice,
+    service_of,
 };
 use crate::contacts::{command_text, contact_text};
 use crate::groups::{
@@ -156,9 +157,9 @@ impl<'a, 'r> RowCells<'a, 'r> {
                 Some(service) => service.text(column),
                 None => empty_text(kind(c)),
             },
-            OwnColumn::HostGroup(column) => host_group_text(live, row_host_group(row), column),
+            OwnColumn::HostGroup(column) => host_group_text(live, row_host_group_id(row), column),
             OwnColumn::ServiceGroup(column) => {
-                service_group_text(live, row_service_group(row), column)
+                service_group_text(live, row_service_group_id(row), column)
             }
             OwnColumn::Contact(column) => Some(contact_text(row_contact(base, row), column)),
             OwnColumn::ContactGroup(column) => {
@@ -194,10 +195,10 @@ impl<'a, 'r> RowCells<'a, 'r> {
                 None => Ok(empty_value(alloc, kind(c))),
             },
             OwnColumn::HostGroup(column) => {
-                host_group_value(alloc, live, view, row_host_group(row), column)
+                host_group_value(alloc, live, view, row_host_group_id(row), column)
             }
             OwnColumn::ServiceGroup(column) => {
-                service_group_value(alloc, live, view, row_service_group(row), column)
+                service_group_value(alloc, live, view, row_service_group_id(row), column)
             }
             OwnColumn::Contact(column) => {
                 Ok(Val::Str(contact_text(row_contact(base, row), column)))

@@ -1,15 +1,15 @@
 ghost use Rattle.std.specs.Prelude.{◌≡◌, IfOk, IsOk, filter};
-ghost use Rattle.std.specs.List.{filter_map, slice_get};
 ghost use Rattle.lq_auth.specs.Rights.{sees_host, sees_service};
-ghost use Rattle.std.specs.Option.{IfSome, IsSome, option_copied};
+ghost use Rattle.std.specs.Option.{IfSome, IsSome, option_and_then, option_copied};
 ghost use Rattle.lq_auth.specs.declared.view.View.{View};
 ghost use Rattle.lq_columns.specs.Names.{host_names_of};
 ghost use Rattle.lq_columns.specs.Plain.{HasTexts, IsPlain};
 ghost use Rattle.lq_records.specs.declared.base.Base.{Base};
 ghost use Rattle.lq_schema.specs.Kinds.{contact_group_kind, host_group_kind, service_group_kind};
 ghost use Rattle.lq_schema.specs.Value.{Pairs, Texts, Words, shown};
+ghost use Rattle.lq_tables.specs.About.{host_group_at, service_group_at};
 ghost use Rattle.lq_tables.specs.Cells.{contact_group_cell, host_group_cell, host_group_part, service_group_cell, service_group_part};
-ghost use Rattle.lq_tables.specs.Parts.{pair_at};
+ghost use Rattle.lq_tables.specs.Parts.{pairs_of};
 
 use crate::pairs::pairs_of;
 use lq_auth::View;
@@ -75,7 +75,8 @@ pub(crate) fn host_group_text(
     column: HostGroupColumn,
 ) -> Option<&str>
     ensures value { (view : View) → IfSome result (λ text.
-        host_group_part live.now.state view id column ≡ Words text.now) }
+        host_group_part live.now.state view
+        (option_and_then (host_group_at live.now.state.base) id) column ≡ Words text.now) }
     ensures given { HasTexts (host_group_kind column) → IsSome result }
 {
     let Some(id) = id else {
@@ -104,7 +105,8 @@ pub(crate) fn host_group_value<'a>(
     column: HostGroupColumn,
 ) -> Result<Val<'a>, Memory>
     ensures value { IfOk result (λ v.
-        shown v ≡ host_group_part live.now.state view.now id column) }
+        shown v ≡ host_group_part live.now.state view.now
+        (option_and_then (host_group_at live.now.state.base) id) column) }
     ensures plain { IsPlain (host_group_kind column) → IsOk result }
 {
     let Some(id) = id else {
@@ -151,7 +153,8 @@ pub(crate) fn service_group_text(
     column: ServiceGroupColumn,
 ) -> Option<&str>
     ensures value { (view : View) → IfSome result (λ text.
-        service_group_part live.now.state view id column ≡ Words text.now) }
+        service_group_part live.now.state view
+        (option_and_then (service_group_at live.now.state.base) id) column ≡ Words text.now) }
     ensures given { HasTexts (service_group_kind column) → IsSome result }
 {
     let Some(id) = id else {
@@ -180,7 +183,8 @@ pub(crate) fn service_group_value<'a>(
     column: ServiceGroupColumn,
 ) -> Result<Val<'a>, Memory>
     ensures value { IfOk result (λ v.
-        shown v ≡ service_group_part live.now.state view.now id column) }
+        shown v ≡ service_group_part live.now.state view.now
+        (option_and_then (service_group_at live.now.state.base) id) column) }
     ensures plain { IsPlain (service_group_kind column) → IsOk result }
 {
     let Some(id) = id else {
@@ -210,8 +214,7 @@ fn seen_services<'a>(
     group: &ServiceGroup,
 ) -> Result<Val<'a>, Memory>
     ensures { IfOk result (λ v. shown v ≡ Pairs
-        (filter_map (pair_at live.now.state.base) (filter (sees_service view.now)
-        group.now.members))) }
+        (pairs_of live.now.state.base (filter (sees_service view.now) group.now.members))) }
 {
     let members = view.seen_of(alloc, group.members.as_slice())?;
     let pairs = pairs_of(alloc, live.base(), &members)?;

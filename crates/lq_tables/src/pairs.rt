@@ -1,7 +1,7 @@
-ghost use Rattle.std.specs.Prelude.{◌≡◌, ◌++◌, IfOk, OnOk, filter_map, option_to_list};
-ghost use Rattle.std.specs.List.{slice_get};
+ghost use Rattle.std.specs.Prelude.{◌≡◌, ◌++◌, IfOk, OnOk, option_to_list};
 ghost use Rattle.std.specs.Option.{option_map};
-ghost use Rattle.lq_tables.specs.Parts.{pair_at, pair_of};
+ghost use Rattle.lq_records.specs.Places.{found_at};
+ghost use Rattle.lq_tables.specs.Parts.{pair_of, pairs_of};
 
 use lq_records::{Base, Items, Memory, Service, ServiceId, Text};
 use std::alloc::Global;
@@ -20,7 +20,7 @@ pub(crate) fn pairs_of(
     base: &Base,
     ids: &[ServiceId],
 ) -> Result<Items<(Text, Text)>, Memory>
-    ensures { IfOk result (λ pairs. pairs ≡ filter_map (pair_at base.now) ids.now) }
+    ensures { IfOk result (λ pairs. pairs ≡ pairs_of base.now ids.now) }
 {
     let mut pairs = Items::new(alloc);
     for id in ids {
@@ -49,7 +49,7 @@ fn push_pair(
 
 fn pair_at(base: &Base, id: ServiceId) -> Option<Pair<'_>>
     ensures { option_map (λ pair. (pair.host.now, pair.description.now)) result
-        ≡ pair_at base.now id }
+        ≡ found_at (pair_of base.now) base.now.services id.0 }
 {
     match base.services.as_slice().get(id.0 as usize) {
         Some(service) => pair_of(base, service),

@@ -6,14 +6,14 @@ ghost use Rattle.lq_columns.specs.Plain.{HasNumbers, HasTexts};
 ghost use Rattle.lq_live.specs.State.{State};
 ghost use Rattle.lq_schema.specs.Kinds.{slice_kind};
 ghost use Rattle.lq_schema.specs.Value.{Number, Words, shown};
-ghost use Rattle.lq_tables.specs.Slices.{description_of, duration_of, host_name_of, host_of, millionths, output_at, part_of, period_of, seconds_in, service_of, slice_cell};
+ghost use Rattle.lq_tables.specs.Slices.{description_of, duration_of, host_name_of, millionths, name_of_host, output_at, part_of, seconds_in, slice_cell};
 ghost use Rattle.lq_columns.specs.Cells.{natural};
 
 use crate::history_row::HistoryRow;
-use lq_columns::{empty_number, empty_text, empty_value, flag};
+use lq_columns::{empty_number, empty_text, empty_value, flag, period_of};
 use lq_events::LogEntry;
 use lq_live::Live;
-use lq_records::{Base, Host, Object, Service};
+use lq_records::{Base, HostId, Object};
 use lq_schema::{OwnColumn, SliceColumn, Val};
 use lq_statehist::Slice;
 use std::alloc::Global;
@@ -145,33 +145,24 @@ fn millionths(seconds: u64, whole: u64) -> i128
 
 // ---- what a slice is of
 
-/// The host itself, or the one that the service runs on.
-fn host_of(base: &Base, object: Object) -> Option<&Host>
-    ensures { option_copied result ≡ host_of base.now object }
+/// The name of the host itself, or of the one that the service runs on.
+fn host_name_of(base: &Base, object: Object) -> &str
+    ensures { result.now ≡ host_name_of base.now object }
 {
     match object {
-        Object::Host(id) => base.hosts.as_slice().get(id.0 as usize),
-        Object::Service(_) => match service_of(base, object) {
-            Some(service) => base.hosts.as_slice().get(service.host.0 as usize),
-            None => None,
+        Object::Host(id) => name_of_host(base, id),
+        Object::Service(id) => match base.services.as_slice().get(id.0 as usize) {
+            Some(service) => name_of_host(base, service.host),
+            None => "",
         },
     }
 }
 
-/// The service itself, None for a host.
-fn service_of(base: &Base, object: Object) -> Option<&Service>
-    ensures { option_copied result ≡ service_of base.now object }
+/// The name of the host with an id.
+fn name_of_host(base: &Base, id: HostId) -> &str
+    ensures { result.now ≡ name_of_host base.now id }
 {
-    match object {
-        Object::Host(_) => None,
-        Object::Service(id) => base.services.as_slice().get(id.0 as usize),
-    }
-}
-
-fn host_name_of(base: &Base, object: Object) -> &str
-    ensures { result.now ≡ host_name_of base.now object }
-{
-    match host_of(base, object) {
+    match base.hosts.as_slice().get(id.0 as usize) {
         Some(host) => host.host_name.as_str(),
         None => "",
     }
@@ -181,23 +172,10 @@ fn host_name_of(base: &Base, object: Object) -> &str
 fn description_of(base: &Base, object: Object) -> &str
     ensures { result.now ≡ description_of base.now object }
 {
-    match service_of(base, object) {
-        Some(service) => service.service_description.as_str(),
-        None => "",
-    }
-}
-
-/// The name of the time period in which people are notified about an object.
-fn period_of(base: &Base, object: Object) -> &str
-    ensures { result.now ≡ period_of base.now object }
-{
     match object {
-        Object::Host(_) => match host_of(base, object) {
-            Some(host) => host.fields.notification_period.as_str(),
-            None => "",
-        },
-        Object::Service(_) => match service_of(base, object) {
-            Some(service) => service.fields.notification_period.as_str(),
+        Object::Host(_) => "",
+        Object::Service(id) => match base.services.as_slice().get(id.0 as usize) {
+            Some(service) => service.service_description.as_str(),
             None => "",
         },
     }
