@@ -47,8 +47,8 @@ impl From<AllocError> for CommandErr {
 ///
 /// The act is `Unknown` where no command has the word, a field is missing (only a check result's
 /// output may be: it is then empty), a field that should be a number isn't one or more digits below
-/// 2 ^ 64, a start or an end has more than 12 digits, no such host or service is in the base, or the
-/// code of a check's result is above 2 for a host and above 3 for a service.
+/// 2 ^ 64, a start or an end has more than 12 digits, no such host or service is in the base, or
+/// the code of a check's result is above 2 for a host and above 3 for a service.
 ///
 /// The errors are `NoTime`, exactly where the line doesn't begin with `[`, 1 to 12 digits and `]`,
 /// and `Memory`, out of memory.

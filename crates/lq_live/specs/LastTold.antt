@@ -23,7 +23,8 @@ pub record AreTold (told : LastTold) (base : Base) (log : List LogEntry) : Type 
   pub services : (id : ServiceId) → id.0 < length told.services.items
       → slice_index_or told.services.items id.0 false ≡ is_flapping base log (object.Service id)
   pub periods : (name : List ℕ) (place : ℕ)
-      → place_of_name (arc_value told.names).keys name ≡ Some place → place < length told.periods.items
+      → place_of_name (arc_value told.names).keys name ≡ Some place
+      → place < length told.periods.items
       → slice_index_or told.periods.items place false ≡ is_period_on log name
 
 -- the marks of hosts, and those of services, with that of an object set

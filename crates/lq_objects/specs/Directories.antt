@@ -63,7 +63,8 @@ pub record AreNamesOf (directory : Directory) (base : Base) : Type 0 where
       map parts_of directory.services
       ≡ map (λ service. (service.host_name, service.service_description)) base.services
   pub host_groups :
-      map parts_of directory.host_groups ≡ map (λ group. (group.hostgroup_name, [])) base.host_groups
+      map parts_of directory.host_groups
+      ≡ map (λ group. (group.hostgroup_name, [])) base.host_groups
   pub service_groups :
       map parts_of directory.service_groups
       ≡ map (λ group. (group.servicegroup_name, [])) base.service_groups

@@ -1,3 +1,3 @@
 pub mod CleanLemmas
-pub mod ContactLemmas
+pub mod Contacts
 pub mod NameLemmas

@@ -241,7 +241,7 @@ fn gather<T: MonitoredObject>(alloc: Global, items: &[T]) -> Result<Gathered, Me
 
 impl Gathered {
     /// Adds the lists of an object, and gives their place.
-    #[tactic(auto, using(crate::proofs::ContactLemmas::one_more))]
+    #[tactic(auto, using(crate::proofs::Contacts::one_more))]
     fn add(&mut self, alloc: Global, fields: &ObjectFields, hint: u32) -> Result<u32, Memory>
         ensures { (objects : List ContactLists)
             → AreListsOf self.old.lists.items self.old.places.items objects
@@ -254,7 +254,7 @@ impl Gathered {
     }
 
     /// The place of the lists of an object. They are added where they don't stand at the hint.
-    #[tactic(auto, using(crate::proofs::ContactLemmas::still_found, crate::proofs::ContactLemmas::last_found))]
+    #[tactic(auto, using(crate::proofs::Contacts::still_found, crate::proofs::Contacts::last_kept))]
     fn place_of(&mut self, alloc: Global, fields: &ObjectFields, hint: u32) -> Result<u32, Memory>
         ensures found { IfOk result
             (λ place. slice_get self.new.lists.items place ≡ Some (lists_of fields.now)) }

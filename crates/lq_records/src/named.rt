@@ -78,7 +78,7 @@ impl<T: NamedObject> NamedItems<T> {
     /// The place of the item with a name. None where no item has it.
     fn place_of(&self, name: NameQuery<'_>) -> Option<u32>
         ensures value { result ≡ position
-            (λ item. has_name name.entry.first.now name.entry.second.now (T.name_of item)) self.now }
+            (λ own. has_name name.entry.first.now name.entry.second.now (T.name_of own)) self.now }
         ensures within { IfSome result (λ place. place < length self.now) }
     {
         match self.names.get_index_of(name) {

@@ -1,5 +1,5 @@
-/// What ends a wait, by the word of a `WaitTrigger` line (Livestatus, headers). No line of a wait is
-/// read yet, so no request has one.
+/// What ends a wait, by the word of a `WaitTrigger` line (Livestatus, headers). No line of a wait
+/// is read yet, so no request has one.
 #[derive(Clone, Copy)]
 pub enum Trigger {
     /// `check`: a check result of a host or a service.

@@ -1,5 +1,5 @@
 use Rattle.std.proofs.lemmas.Slice.Eq.{slice_eq-Decides}
-use Rattle.lq_records.proofs.ContactLemmas.{contacts_decided, groups_decided}
+use Rattle.lq_records.proofs.Contacts.{contacts_decided, groups_decided}
 use Rattle.lq_records.proofs.monitored.ContactLists.are_of.Goals as goal
 
 -- src/monitored.rt:62:5

@@ -15,9 +15,9 @@ found_in_more [] y i x found = absurd (none_found x found)
 found_in_more (z ∷ xs) y zero x found = found
 found_in_more (z ∷ xs) y (suc i) x found = found_in_more xs y i x found
 
-pub last_found : {A : Type 0} (xs : List A) (x : A) → slice_get (xs ++ x ∷ []) (length xs) ≡ Some x
-last_found [] x = refl
-last_found (y ∷ xs) x = last_found xs x
+pub last_kept : {A : Type 0} (xs : List A) (x : A) → slice_get (xs ++ x ∷ []) (length xs) ≡ Some x
+last_kept [] x = refl
+last_kept (y ∷ xs) x = last_kept xs x
 
 abbrev first_of : {A : Type 0} → List (Option A) → Option A
 first_of [] = None
