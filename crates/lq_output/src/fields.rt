@@ -45,6 +45,7 @@ pub fn push_field(out: &mut Vec<u8>, text: &[u8]) -> Result<(), Memory>
 }
 
 /// Whether RFC 4180 quotes a field with this text.
+#[inline(never)]
 pub fn is_quoted(text: &[u8]) -> bool
     ensures { result ≡ list_any is_special text.now }
 {

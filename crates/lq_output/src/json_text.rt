@@ -42,6 +42,7 @@ pub fn push_string(out: &mut Vec<u8>, text: &str) -> Result<(), Memory>
 
 /// Whether a text stands in a JSON string as it is. No byte ends the loop, so that it takes many
 /// bytes at once.
+#[inline(never)]
 pub fn has_no_escape(text: &str) -> bool
     ensures { result ≡ list_all is_plain text.now }
 {

@@ -138,13 +138,17 @@ impl Writer {
             → body_limit < length (closed (with_cell self.old (value_of cell.entry))) }
         ensures err { OnErr result (self.new ≡ self.old) }
     {
-        let spot = self.spot();
         match cell {
-            Cell::Number(number) => push_number_at(&mut self.body, spot, number)?,
-            Cell::Text(text) if is_as_it_is(spot.layout.format, text) => {
+            Cell::Number(number) => {
+                let spot = self.spot();
+                push_number_at(&mut self.body, spot, number)?;
+            }
+            Cell::Text(text) if is_as_it_is(self.layout.format, text) => {
+                let spot = self.spot();
                 push_text_at(&mut self.body, spot, text)?;
             }
             Cell::Text(_) | Cell::Value(_) => {
+                let spot = self.spot();
                 push_apart(&mut self.body, &mut self.cell, spot, cell)?;
             }
         }

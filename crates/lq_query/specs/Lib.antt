@@ -4,4 +4,3 @@ pub mod Answer
 pub mod Lines
 pub mod Counting
 pub mod Isolation
-pub mod SeenRow

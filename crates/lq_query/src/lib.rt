@@ -10,7 +10,6 @@ mod line;
 mod page;
 mod reply;
 mod row_test;
-mod seen_row;
 mod selection;
 mod sight;
 mod window;

@@ -5,25 +5,20 @@ ghost use Rattle.lq_output.specs.declared.error.WriteErr.TheVariants.{TooLarge};
 ghost use Rattle.lq_query.specs.Answer.{first_lines};
 ghost use Rattle.lq_query.specs.Rows.{chosen, row_cells};
 ghost use Rattle.lq_query.specs.Lines.{HasLines, IsTooLarge, seen_cells, first_rows, marked};
-ghost use Rattle.lq_query.specs.SeenRow.{values_of};
 
 use crate::column::ShownColumn;
-use crate::seen_row::SeenRow;
 use crate::selection::Selection;
 use crate::sight::Sight;
-use lq_filter::Filter;
+use lq_filter::{Filter, Scan};
 use lq_output::{WriteErr, Writer};
 use lq_request::Request;
 use lq_schema::{Col, ColKind};
-use lq_tables::{Row, RowCells};
+use lq_tables::Row;
 use std::alloc::Global;
 
 /// How many rows are tested at once. More would keep those behind the last one that may be shown
 /// from being left alone, and fewer would turn from one test to the next too often.
 const BLOCK: usize = 512;
-
-/// Up to how many columns the cells of a row are found one by one.
-const FEW_COLUMNS: usize = 4;
 
 /// What the lines of rows are written from.
 #[derive(Drop)]
@@ -224,86 +219,47 @@ impl Page<'_> {
         ensures large { result ≡ Err TooLarge → IsTooLarge writer.old
             (row_cells self.now.columns.now (seen_cells self.now.sight row.now) ∷ []) }
     {
-        if self.columns.len() > FEW_COLUMNS {
-            return self.push_wide(writer, row);
-        }
-        let sight = self.sight;
-        self.push_cells(writer, SeenRow::Few { sight, row })
-    }
-
-    /// The same for a row with many columns. It stands apart so that a row with few makes no room
-    /// for all that cells may be about.
-    #[inline(never)]
-    fn push_wide(&self, writer: &mut Writer, row: &Row) -> Result<(), WriteErr>
-        requires { 0 < length self.now.columns.now }
-        ensures lines { OnOk result (HasLines writer.old writer.new
-            (row_cells self.now.columns.now (seen_cells self.now.sight row.now) ∷ [])) }
-        ensures large { result ≡ Err TooLarge → IsTooLarge writer.old
-            (row_cells self.now.columns.now (seen_cells self.now.sight row.now) ∷ []) }
-    {
-        let cells = RowCells::of(self.sight.live, row, self.sight.view);
-        self.push_cells(writer, SeenRow::Many(&cells))
-    }
-
-    /// Adds the line of a row's cells.
-    fn push_cells(&self, writer: &mut Writer, cells: SeenRow<'_, '_>) -> Result<(), WriteErr>
-        requires { 0 < length self.now.columns.now }
-        ensures lines { OnOk result (HasLines writer.old writer.new
-            (row_cells self.now.columns.now (values_of cells.entry) ∷ [])) }
-        ensures large { result ≡ Err TooLarge → IsTooLarge writer.old
-            (row_cells self.now.columns.now (values_of cells.entry) ∷ []) }
-    {
         for column in self.columns {
-            self.push_cell(writer, cells, column)?;
+            self.push_cell(writer, row, column)?;
         }
         writer.end_line()
     }
 
-    /// Adds a cell to the open line. A number and a text of the data take no memory of their own.
-    fn push_cell(
-        &self,
-        writer: &mut Writer,
-        cells: SeenRow<'_, '_>,
-        shown: &ShownColumn,
-    ) -> Result<(), WriteErr>
+    /// Adds a cell of a row to the open line. A number and a text of the data take no memory of
+    /// their own, and are found with no look at what the row's other cells are about.
+    fn push_cell(&self, writer: &mut Writer, row: &Row, shown: &ShownColumn) -> Result<(), WriteErr>
         ensures ok { OnOk result (writer.new
-            ≡ with_cell writer.old
-            (values_of cells.entry shown.now)) }
+            ≡ with_cell writer.old (seen_cells self.now.sight row.now shown.now)) }
         ensures cell { OnOk result (AddsCell writer.old writer.new
-            (values_of cells.entry shown.now)) }
+            (seen_cells self.now.sight row.now shown.now)) }
         ensures large { result ≡ Err TooLarge → IsTooLargeWith writer.old
-            (values_of cells.entry shown.now) }
+            (seen_cells self.now.sight row.now shown.now) }
     {
         let column = shown.column();
         match shown.kind() {
-            ColKind::Int => match cells.number(column) {
+            ColKind::Int => match self.sight.held_number(row, column) {
                 Some(number) => writer.number(number),
-                None => self.push_any(writer, cells, column),
+                None => self.push_any(writer, row, column),
             },
-            ColKind::Str => match cells.text(column) {
+            ColKind::Str => match self.sight.held_text(row, column) {
                 Some(text) => writer.text(text),
-                None => self.push_any(writer, cells, column),
+                None => self.push_any(writer, row, column),
             },
-            ColKind::List | ColKind::Nums | ColKind::Pairs => self.push_any(writer, cells, column),
+            ColKind::List | ColKind::Nums | ColKind::Pairs => self.push_any(writer, row, column),
         }
     }
 
     /// Adds a cell of any kind. It stands apart so that plain cells make no room for a value.
     #[inline(never)]
-    fn push_any(
-        &self,
-        writer: &mut Writer,
-        cells: SeenRow<'_, '_>,
-        column: Col,
-    ) -> Result<(), WriteErr>
+    fn push_any(&self, writer: &mut Writer, row: &Row, column: Col) -> Result<(), WriteErr>
         ensures ok { OnOk result (writer.new
-            ≡ with_cell writer.old (values_of cells.entry column)) }
+            ≡ with_cell writer.old (seen_cells self.now.sight row.now column)) }
         ensures cell { OnOk result (AddsCell writer.old writer.new
-            (values_of cells.entry column)) }
+            (seen_cells self.now.sight row.now column)) }
         ensures large { result ≡ Err TooLarge → IsTooLargeWith writer.old
-            (values_of cells.entry column) }
+            (seen_cells self.now.sight row.now column) }
     {
-        let value = cells.value(self.alloc, column)?;
+        let value = self.sight.get(self.alloc, row, column)?;
         writer.cell(&value)
     }
 }

@@ -1,5 +1,5 @@
-ghost use Rattle.std.specs.Prelude.{◌≡◌, ⊤, IfOk};
-ghost use Rattle.lq_schema.specs.Value.{shown};
+ghost use Rattle.std.specs.Prelude.{◌≡◌, ⊤, IfOk, IfSome};
+ghost use Rattle.lq_schema.specs.Value.{Number, Words, shown};
 ghost use Rattle.lq_query.specs.Lines.{seen_cells};
 
 use crate::row_test::{
@@ -11,7 +11,10 @@ use lq_filter::{ElementCheck, NumberCheck, Scan, TextCheck};
 use lq_live::Live;
 use lq_records::Memory;
 use lq_schema::{Col, HostColumn, ObjectColumn, OwnColumn, ServiceColumn, Val};
-use lq_tables::{Row, RowCells, row_contains, row_number, row_text};
+use lq_tables::{
+    Row, RowCells, host_number, host_text, row_contains, row_number, row_text, service_number,
+    service_text,
+};
 use std::alloc::Global;
 
 /// A state, and what a query sees of it. Filters test the cells of its rows.
@@ -21,6 +24,45 @@ pub struct Sight<'a> {
     pub live: &'a Live,
     /// What the query sees of it.
     pub view: &'a View,
+}
+
+impl<'a> Sight<'a> {
+    /// The number of a cell that is found without a look at other objects, None for any other cell.
+    /// Hosts and services in their own tables come first, since most rows are such.
+    #[inline(always)]
+    pub fn held_number(&self, row: &Row, column: Col) -> Option<i128>
+        ensures { IfSome result (λ number. seen_cells self.now row.now column ≡ Number number) }
+    {
+        if let OwnColumn::Host(own) = column.own {
+            if let Some(number) = host_number(self.live, row, own) {
+                return Some(number);
+            }
+        }
+        if let OwnColumn::Service(own) = column.own {
+            if let Some(number) = service_number(self.live, row, own) {
+                return Some(number);
+            }
+        }
+        row_number(self.live, row, column)
+    }
+
+    /// The text of a cell that the state holds as it is, None for any other cell.
+    #[inline(always)]
+    pub fn held_text(&self, row: &Row, column: Col) -> Option<&'a str>
+        ensures { IfSome result (λ text. seen_cells self.now row.now column ≡ Words text.now) }
+    {
+        if let OwnColumn::Host(own) = column.own {
+            if let Some(text) = host_text(self.live, row, own) {
+                return Some(text);
+            }
+        }
+        if let OwnColumn::Service(own) = column.own {
+            if let Some(text) = service_text(self.live, row, own) {
+                return Some(text);
+            }
+        }
+        row_text(self.live, row, column, self.view)
+    }
 }
 
 impl Scan for Sight<'_> {

@@ -19,6 +19,7 @@ use lq_records::{
 
 // ---- downtimes and comments
 
+#[inline(always)]
 pub(crate) fn row_downtime<'a>(live: &'a Live, row: &Row) -> Option<&'a Downtime>
     ensures { option_copied result ≡ row_downtime live.now.state row.now }
 {
@@ -28,6 +29,7 @@ pub(crate) fn row_downtime<'a>(live: &'a Live, row: &Row) -> Option<&'a Downtime
     }
 }
 
+#[inline(always)]
 pub(crate) fn row_comment<'a>(live: &'a Live, row: &Row) -> Option<&'a Comment>
     ensures { option_copied result ≡ row_comment live.now.state row.now }
 {
@@ -61,6 +63,7 @@ fn comment_with(live: &Live, id: u64) -> Option<&Comment>
 
 // ---- lines of the log
 
+#[inline(always)]
 pub(crate) fn row_line<'a>(live: &'a Live, row: &Row) -> Option<&'a LogEntry>
     ensures { option_copied result ≡ row_line live.now.state row.now }
 {
@@ -85,7 +88,7 @@ pub(crate) fn row_slice(row: &Row) -> Option<&HistoryRow>
 
 /// The host or service that a row is about, or its downtime, its comment, its line of the log or
 /// its slice of a history.
-#[inline]
+#[inline(always)]
 pub(crate) fn row_object(live: &Live, row: &Row) -> Option<Object>
     ensures { result ≡ row_object live.now.state row.now }
 {
@@ -112,7 +115,7 @@ pub(crate) fn row_object(live: &Live, row: &Row) -> Option<Object>
 }
 
 /// The service that an object is.
-#[inline]
+#[inline(always)]
 pub(crate) fn service_of(live: &Live, object: Option<Object>) -> Option<ServiceRow<'_>>
     ensures { option_map service_record result
         ≡ option_and_then (service_of_object live.now.state) object }
@@ -124,7 +127,7 @@ pub(crate) fn service_of(live: &Live, object: Option<Object>) -> Option<ServiceR
 }
 
 /// The host that an object is, or that it runs on as a service.
-#[inline]
+#[inline(always)]
 pub(crate) fn host_of(live: &Live, object: Option<Object>) -> Option<HostRow<'_>>
     ensures { option_map host_record result
         ≡ option_and_then (host_of_object live.now.state) object }

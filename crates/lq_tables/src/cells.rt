@@ -88,7 +88,7 @@ impl<'a, 'r> Model for RowCells<'a, 'r> {
 
 impl<'a, 'r> RowCells<'a, 'r> {
     /// The cells of a row, of other objects as far as a query sees them.
-    #[inline]
+    #[inline(always)]
     pub fn of(live: &'a Live, row: &'r Row, view: &'a View) -> RowCells<'a, 'r>
         ensures { result ≡ record { state = live.now.state; view = view.now; row = row.now } }
     {

@@ -5,15 +5,11 @@
 //! number generates, and tells of the replies in one line.
 #![tactic(auto)]
 
-mod command_line;
-mod fault;
-mod load;
-mod run;
-mod session;
 #[cfg(test)]
 mod tests;
 
 use lq_outside::{StandardStream, StdFiles, StdSink, StdSource};
+use lq_program::{run, words};
 use std::process::ExitCode;
 
 fn main(rt: HostRuntime) -> ExitCode {
@@ -21,8 +17,8 @@ fn main(rt: HostRuntime) -> ExitCode {
     let mut input = StdSource::new(rt.stdin());
     let mut output = StdSink::new(StandardStream::Output(rt.stdout()));
     let mut faults = StdSink::new(StandardStream::Errors(rt.stderr()));
-    let status = match command_line::words(&rt) {
-        Ok(words) => run::run(
+    let status = match words(&rt) {
+        Ok(words) => run(
             &rt,
             rt.alloc(),
             &words,

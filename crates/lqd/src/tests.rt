@@ -1,5 +1,5 @@
-use crate::run::run;
 use lq_outside::{Failed, MemFiles, MemSink, MemSource, Sink, Source};
+use lq_program::run;
 use std::alloc::{AllocError, Global};
 use std::process::Abort;
 use std::test::Fail;

@@ -1,0 +1,5 @@
+pub mod CommandLine
+pub mod Faults
+pub mod Run
+pub mod Words
+pub mod Load

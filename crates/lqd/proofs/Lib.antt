@@ -1,8 +1,0 @@
-pub mod MessageLemmas
-pub mod StreamLemmas
-pub mod DigitLemmas
-pub mod ReportLemmas
-pub mod LoadLemmas
-pub mod OpenLemmas
-pub mod WorkloadLemmas
-pub mod NumberLemmas

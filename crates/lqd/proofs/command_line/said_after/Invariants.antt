@@ -1,6 +1,0 @@
-use Rattle.std.proofs.Common.{◌≡◌, drop, map, string_bytes}
-use Rattle.lqd.specs.Words.{given_with}
-use Rattle.lqd.proofs.command_line.said_after.Given as goal
-
-abbrev pub invariant-loop-word : goal.invariant-loop-word
-invariant-loop-word l = given_with l.said (map string_bytes (drop l.word-index l.words)) ≡ given_with l.before (map string_bytes l.words)
