@@ -71,7 +71,7 @@ pub fn is_as_it_is(format: Format, text: &str) -> bool
 }
 
 /// Adds a text that is written as it is. Where memory runs out, nothing is added.
-#[inline]
+#[inline(always)]
 #[tactic(auto, using(crate::proofs::EscapeLemmas::quoted_plain))]
 pub fn push_as_it_is(out: &mut Vec<u8>, layout: Layout, text: &str) -> Result<(), Memory>
     requires { is_as_it_is layout.format text.now ≡ true }

@@ -62,7 +62,7 @@ fn is_plain(byte: u8) -> bool
 }
 
 /// Adds a text between quotes. Where memory runs out, nothing is added.
-#[inline]
+#[inline(never)]
 pub fn push_in_quotes(out: &mut Vec<u8>, text: &str) -> Result<(), Memory>
     ensures ok { OnOk result (out.new.items ≡ out.old.items ++ 34 ∷ (text.now ++ 34 ∷ [])) }
     ensures err { OnErr result (out.new.items ≡ out.old.items) }

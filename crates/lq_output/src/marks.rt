@@ -1,4 +1,5 @@
-ghost use Rattle.std.specs.Prelude.{◌≡◌, ◌+◌, ◌++◌, OnOk, OnErr, length};
+ghost use Rattle.std.specs.Prelude.{◌≡◌, ◌+◌, ◌∷◌, [], ◌++◌, OnOk, OnErr, length, false};
+ghost use Rattle.lq_records.specs.declared.format.Format.TheVariants as format;
 ghost use Rattle.lq_output.specs.Body.{marks_of};
 ghost use Rattle.lq_output.specs.Spots.{gap_at};
 
@@ -22,26 +23,54 @@ pub fn push_gap(out: &mut Vec<u8>, spot: Spot) -> Result<(), Memory>
     ensures ok { OnOk result (out.new.items ≡ out.old.items ++ gap_at spot) }
     ensures err { OnErr result (out.new.items ≡ out.old.items) }
 {
+    if spot.has_cell {
+        return Ok(out.push(between_cells(spot.layout))?);
+    }
     match spot.layout.format {
-        Format::Csv if spot.has_cell => Ok(out.push(spot.layout.separators.column)?),
-        Format::Quoted if spot.has_cell => Ok(out.push(b',')?),
         Format::Csv | Format::Quoted => Ok(()),
-        Format::Json if spot.has_cell => Ok(out.push(b',')?),
-        Format::Json if spot.has_line => out.extend_from_slice(b",\n["),
-        Format::Json => Ok(out.push(b'[')?),
+        Format::Json => push_line_start(out, spot),
+    }
+}
+
+/// The byte between the cells of a line.
+#[inline]
+fn between_cells(layout: Layout) -> u8
+    ensures { result ∷ [] ≡ (marks_of layout).between_cells }
+{
+    match layout.format {
+        Format::Csv => layout.separators.column,
+        Format::Quoted | Format::Json => b',',
+    }
+}
+
+/// Adds what stands before the first cell of a line in json. Where memory runs out, nothing is
+/// added. It stands apart so that a cell of csv has one place alone where its body may grow.
+#[inline(never)]
+fn push_line_start(out: &mut Vec<u8>, spot: Spot) -> Result<(), Memory>
+    requires json { spot.layout.format ≡ format.Json }
+    requires first { spot.has_cell ≡ false }
+    ensures ok { OnOk result (out.new.items ≡ out.old.items ++ gap_at spot) }
+    ensures err { OnErr result (out.new.items ≡ out.old.items) }
+{
+    if spot.has_line {
+        out.extend_from_slice(b",\n[")
+    } else {
+        Ok(out.push(b'[')?)
     }
 }
 
 /// Adds what ends a line. Where memory runs out, nothing is added.
+#[inline(always)]
 pub fn push_line_end(out: &mut Vec<u8>, layout: Layout) -> Result<(), Memory>
     ensures ok { OnOk result (out.new.items ≡ out.old.items ++ (marks_of layout).line_end) }
     ensures err { OnErr result (out.new.items ≡ out.old.items) }
 {
-    match layout.format {
-        Format::Csv => Ok(out.push(layout.separators.row)?),
-        Format::Quoted => out.extend_from_slice(b"\r\n"),
-        Format::Json => Ok(out.push(b']')?),
-    }
+    let end = match layout.format {
+        Format::Csv => layout.separators.row,
+        Format::Quoted => return out.extend_from_slice(b"\r\n"),
+        Format::Json => b']',
+    };
+    Ok(out.push(end)?)
 }
 
 /// Adds what ends a body. The only error is out of memory.

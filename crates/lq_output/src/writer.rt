@@ -92,6 +92,7 @@ impl Writer {
     }
 
     /// Adds a number to the open line, as `cell` does with `Val::Int`.
+    #[inline(always)]
     pub fn number(&mut self, number: i128) -> Result<(), WriteErr>
         ensures ok { OnOk result (self.new ≡ with_cell self.old (Number number)) }
         ensures lines { OnOk result (AddsCell self.old self.new (Number number)) }
@@ -104,6 +105,7 @@ impl Writer {
     }
 
     /// Adds a text to the open line, as `cell` does with `Val::Str`.
+    #[inline(always)]
     pub fn text(&mut self, text: &str) -> Result<(), WriteErr>
         ensures ok { OnOk result (self.new ≡ with_cell self.old (Words text.now)) }
         ensures lines { OnOk result (AddsCell self.old self.new (Words text.now)) }
@@ -172,6 +174,7 @@ impl Writer {
 
     /// Ends the open line, which has a cell. The only error is `Memory`: the bytes that end it were
     /// counted with its cells.
+    #[inline(always)]
     pub fn end_line(&mut self) -> Result<(), WriteErr>
         requires { self.old.has_cell ≡ true }
         ensures ok { OnOk result (self.new ≡ with_line self.old) }
@@ -204,6 +207,7 @@ impl Writer {
 
 /// Adds a number to a body that has room for it and for the bytes that end the body behind it.
 /// After an error the body is as it was.
+#[inline(always)]
 fn push_number_at(body: &mut Vec<u8>, spot: Spot, number: i128) -> Result<(), WriteErr>
     requires { length body.old.items ≤ body_limit }
     ensures ok { OnOk result (body.new.items ≡ body.old.items ++ text_at spot (Number number)) }
@@ -223,6 +227,7 @@ fn push_number_at(body: &mut Vec<u8>, spot: Spot, number: i128) -> Result<(), Wr
 }
 
 /// The same for a text that is written as it is.
+#[inline(always)]
 fn push_text_at(body: &mut Vec<u8>, spot: Spot, text: &str) -> Result<(), WriteErr>
     requires within { length body.old.items ≤ body_limit }
     requires as_it_is { is_as_it_is spot.layout.format text.now ≡ true }

@@ -13,7 +13,7 @@ use lq_filter::{Filter, Scan};
 use lq_output::{WriteErr, Writer};
 use lq_request::Request;
 use lq_schema::{Col, ColKind};
-use lq_tables::Row;
+use lq_tables::{Row, row_number, row_text};
 use std::alloc::Global;
 
 /// How many rows are tested at once. More would keep those behind the last one that may be shown
@@ -225,8 +225,9 @@ impl Page<'_> {
         writer.end_line()
     }
 
-    /// Adds a cell of a row to the open line. A number and a text of the data take no memory of
-    /// their own, and are found with no look at what the row's other cells are about.
+    /// Adds a cell of a row to the open line. A number and a text of a host or a service in a table
+    /// of its own, and of the service's host, come first, since most cells are such. They take no
+    /// memory but the body's.
     fn push_cell(&self, writer: &mut Writer, row: &Row, shown: &ShownColumn) -> Result<(), WriteErr>
         ensures ok { OnOk result (writer.new
             ≡ with_cell writer.old (seen_cells self.now.sight row.now shown.now)) }
@@ -235,18 +236,46 @@ impl Page<'_> {
         ensures large { result ≡ Err TooLarge → IsTooLargeWith writer.old
             (seen_cells self.now.sight row.now shown.now) }
     {
-        let column = shown.column();
         match shown.kind() {
-            ColKind::Int => match self.sight.held_number(row, column) {
+            ColKind::Int => match self.sight.own_number(row, shown.column()) {
                 Some(number) => writer.number(number),
-                None => self.push_any(writer, row, column),
+                None => self.push_other(writer, row, shown),
             },
-            ColKind::Str => match self.sight.held_text(row, column) {
+            ColKind::Str => match self.sight.own_text(row, shown.column()) {
                 Some(text) => writer.text(text),
-                None => self.push_any(writer, row, column),
+                None => self.push_other(writer, row, shown),
             },
-            ColKind::List | ColKind::Nums | ColKind::Pairs => self.push_any(writer, row, column),
+            ColKind::List | ColKind::Nums | ColKind::Pairs => {
+                self.push_any(writer, row, shown.column())
+            }
         }
+    }
+
+    /// Adds a number or a text of any other row or column, with no look at what the row's other
+    /// cells are about. It stands apart so that the plainest cells keep nothing for it.
+    #[inline(never)]
+    fn push_other(
+        &self,
+        writer: &mut Writer,
+        row: &Row,
+        shown: &ShownColumn,
+    ) -> Result<(), WriteErr>
+        ensures ok { OnOk result (writer.new
+            ≡ with_cell writer.old (seen_cells self.now.sight row.now shown.now)) }
+        ensures cell { OnOk result (AddsCell writer.old writer.new
+            (seen_cells self.now.sight row.now shown.now)) }
+        ensures large { result ≡ Err TooLarge → IsTooLargeWith writer.old
+            (seen_cells self.now.sight row.now shown.now) }
+    {
+        let column = shown.column();
+        if shown.kind() == ColKind::Str {
+            if let Some(text) = row_text(self.sight.live, row, column, self.sight.view) {
+                return writer.text(text);
+            }
+        } else if let Some(number) = row_number(self.sight.live, row, column) {
+            return writer.number(number);
+        }
+        self.push_any(writer, row, column)
     }
 
     /// Adds a cell of any kind. It stands apart so that plain cells make no room for a value.

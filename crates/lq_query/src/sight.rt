@@ -12,8 +12,8 @@ use lq_live::Live;
 use lq_records::Memory;
 use lq_schema::{Col, HostColumn, ObjectColumn, OwnColumn, ServiceColumn, Val};
 use lq_tables::{
-    Row, RowCells, host_number, host_text, row_contains, row_number, row_text, service_number,
-    service_text,
+    Row, RowCells, host_number, host_text, joined_number, joined_text, row_contains, row_number,
+    row_text, service_number, service_text,
 };
 use std::alloc::Global;
 
@@ -27,41 +27,36 @@ pub struct Sight<'a> {
 }
 
 impl<'a> Sight<'a> {
-    /// The number of a cell that is found without a look at other objects, None for any other cell.
-    /// Hosts and services in their own tables come first, since most rows are such.
+    /// The number of a cell of a host or a service in a table of its own, or of the service's host,
+    /// that the state holds as it is. It may give None for any cell, which is then found by what
+    /// its column is about.
     #[inline(always)]
-    pub fn held_number(&self, row: &Row, column: Col) -> Option<i128>
+    pub fn own_number(&self, row: &Row, column: Col) -> Option<i128>
         ensures { IfSome result (λ number. seen_cells self.now row.now column ≡ Number number) }
     {
-        if let OwnColumn::Host(own) = column.own {
-            if let Some(number) = host_number(self.live, row, own) {
-                return Some(number);
-            }
+        match column.own {
+            OwnColumn::Host(own) => match host_number(self.live, row, own) {
+                None => joined_number(self.live, row, own),
+                number => number,
+            },
+            OwnColumn::Service(own) => service_number(self.live, row, own),
+            _ => None,
         }
-        if let OwnColumn::Service(own) = column.own {
-            if let Some(number) = service_number(self.live, row, own) {
-                return Some(number);
-            }
-        }
-        row_number(self.live, row, column)
     }
 
-    /// The text of a cell that the state holds as it is, None for any other cell.
+    /// The text of such a cell.
     #[inline(always)]
-    pub fn held_text(&self, row: &Row, column: Col) -> Option<&'a str>
+    pub fn own_text(&self, row: &Row, column: Col) -> Option<&'a str>
         ensures { IfSome result (λ text. seen_cells self.now row.now column ≡ Words text.now) }
     {
-        if let OwnColumn::Host(own) = column.own {
-            if let Some(text) = host_text(self.live, row, own) {
-                return Some(text);
-            }
+        match column.own {
+            OwnColumn::Host(own) => match host_text(self.live, row, own) {
+                None => joined_text(self.live, row, own),
+                text => text,
+            },
+            OwnColumn::Service(own) => service_text(self.live, row, own),
+            _ => None,
         }
-        if let OwnColumn::Service(own) = column.own {
-            if let Some(text) = service_text(self.live, row, own) {
-                return Some(text);
-            }
-        }
-        row_text(self.live, row, column, self.view)
     }
 }
 

@@ -38,7 +38,7 @@ use lq_auth::View;
 use lq_columns::{HostRow, ServiceRow, empty_number, empty_text, empty_value, status_number};
 use lq_events::{Comment, Downtime, LogEntry, Status};
 use lq_live::Live;
-use lq_records::{ContactId, Memory};
+use lq_records::{ContactId, Memory, Object};
 use lq_schema::{
     Col, ColKind, HostColumn, OwnColumn, ServiceColumn, StatusColumn, Table, Val, kind,
 };
@@ -264,6 +264,25 @@ pub fn host_number(live: &Live, row: &Row, column: HostColumn) -> Option<i128>
     }
 }
 
+/// The number of a column of hosts where the row is a service of their table: that of its host, as
+/// `row_number` gives it; None for any other row. It stands apart so that a cell of the table's own
+/// keeps no room for it.
+#[inline(never)]
+pub fn joined_number(live: &Live, row: &Row, column: HostColumn) -> Option<i128>
+    ensures value { (view : View) → IfSome result (λ number.
+        own_cell live.now.state view row.now (own.Host column) ≡ Number number) }
+    ensures given { IsService live.now.state row.now → HasNumbers (host_kind column)
+        → IsHeldByHost column → IsSome result }
+{
+    match row {
+        Row::Service(id) => match host_of(live, Some(Object::Service(*id))) {
+            Some(host) => host.number(column),
+            None => empty_number(OwnColumn::Host(column).kind()),
+        },
+        _ => None,
+    }
+}
+
 /// The number of a column of services where the row is a service of their table, as `row_number`
 /// gives it; None for any other row.
 #[inline(always)]
@@ -321,6 +340,24 @@ pub fn host_text<'a>(live: &'a Live, row: &Row, column: HostColumn) -> Option<&'
 {
     match row {
         Row::Host(id) => HostRow::at(live, *id)?.text(column),
+        _ => None,
+    }
+}
+
+/// The text of a column of hosts where the row is a service of their table: that of its host, as
+/// `row_text` gives it; None for any other row. It stands apart as `joined_number` does.
+#[inline(never)]
+pub fn joined_text<'a>(live: &'a Live, row: &Row, column: HostColumn) -> Option<&'a str>
+    ensures value { (view : View) → IfSome result (λ text.
+        own_cell live.now.state view row.now (own.Host column) ≡ Words text.now) }
+    ensures given { IsService live.now.state row.now → HasTexts (host_kind column)
+        → IsSome result }
+{
+    match row {
+        Row::Service(id) => match host_of(live, Some(Object::Service(*id))) {
+            Some(host) => host.text(column),
+            None => empty_text(OwnColumn::Host(column).kind()),
+        },
         _ => None,
     }
 }
