@@ -30,7 +30,7 @@ pub fn empty_value(alloc: Global, kind: ColKind) -> Val<'static>
 }
 
 /// The number of a cell without an object, None where its column has no numbers.
-#[inline(never)]
+#[inline]
 pub fn empty_number(kind: ColKind) -> Option<i128>
     ensures value { IfSome result (λ number. empty_value kind ≡ Number number) }
     ensures given { HasNumbers kind → IsSome result }
@@ -42,7 +42,7 @@ pub fn empty_number(kind: ColKind) -> Option<i128>
 }
 
 /// The text of a cell without an object, None where its column has no single texts.
-#[inline(never)]
+#[inline]
 pub fn empty_text(kind: ColKind) -> Option<&'static str>
     ensures value { IfSome result (λ text. empty_value kind ≡ Words text.now) }
     ensures given { HasTexts kind → IsSome result }

@@ -52,7 +52,7 @@ impl<'a> HostRow<'a> {
 
     /// The number of a column that stands in the state as it is, None for any other column, as a
     /// text or a counter.
-    #[inline]
+    #[inline(always)]
     pub fn number(&self, column: HostColumn) -> Option<i128>
         ensures value { (s : State) (view : View) → IfSome result (λ number.
             host_cell s view (host_record self.now) column ≡ Number number) }
@@ -66,7 +66,7 @@ impl<'a> HostRow<'a> {
     }
 
     /// The text of a column, None for a column of numbers or of lists.
-    #[inline]
+    #[inline(always)]
     pub fn text(&self, column: HostColumn) -> Option<&'a str>
         ensures value { (s : State) (view : View) → IfSome result (λ text.
             host_cell s view (host_record self.now) column ≡ Words text.now) }

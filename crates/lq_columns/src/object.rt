@@ -16,7 +16,7 @@ use lq_schema::{ObjectColumn, Val};
 use std::alloc::Global;
 
 /// The number of a column that the object file says of a host or a service.
-#[inline]
+#[inline(always)]
 pub(crate) fn object_number(fields: &ObjectFields, column: ObjectColumn) -> Option<i128>
     ensures value { (base : Base) (about : Object) → IfSome result (λ number.
         object_cell base about fields.now column ≡ Number number) }
@@ -29,7 +29,7 @@ pub(crate) fn object_number(fields: &ObjectFields, column: ObjectColumn) -> Opti
 }
 
 /// The text of a column that the object file says of a host or a service.
-#[inline]
+#[inline(always)]
 pub(crate) fn object_text(fields: &ObjectFields, column: ObjectColumn) -> Option<&str>
     ensures value { (base : Base) (about : Object) → IfSome result (λ text.
         object_cell base about fields.now column ≡ Words text.now) }

@@ -48,7 +48,7 @@ impl<'a> ServiceRow<'a> {
 
     /// The number of a column that stands in the state as it is, None for any other column, as a
     /// text or how many downtimes hold.
-    #[inline]
+    #[inline(always)]
     pub fn number(&self, column: ServiceColumn) -> Option<i128>
         ensures value { (s : State) → IfSome result (λ number.
             service_cell s (service_record self.now) column ≡ Number number) }
@@ -62,7 +62,7 @@ impl<'a> ServiceRow<'a> {
     }
 
     /// The text of a column, None for a column of numbers or of lists.
-    #[inline]
+    #[inline(always)]
     pub fn text(&self, column: ServiceColumn) -> Option<&'a str>
         ensures value { (s : State) → IfSome result (λ text.
             service_cell s (service_record self.now) column ≡ Words text.now) }

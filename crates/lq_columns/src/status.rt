@@ -18,7 +18,7 @@ use lq_schema::{StatusColumn, Val};
 use std::alloc::Global;
 
 /// The number of a column that a status holds.
-#[inline]
+#[inline(always)]
 pub fn status_number(status: &Status, column: StatusColumn) -> Option<i128>
     ensures value { (s : State) (about : Object) → IfSome result (λ number.
         status_cell s about status.now column ≡ Number number) }
@@ -42,7 +42,7 @@ pub fn status_number(status: &Status, column: StatusColumn) -> Option<i128>
 }
 
 /// The text of a column that a status holds.
-#[inline]
+#[inline(always)]
 pub(crate) fn status_text(status: &Status, column: StatusColumn) -> Option<&str>
     ensures value { (s : State) (about : Object) → IfSome result (λ text.
         status_cell s about status.now column ≡ Words text.now) }

@@ -44,7 +44,8 @@ fn between_cells(layout: Layout) -> u8
 }
 
 /// Adds what stands before the first cell of a line in json. Where memory runs out, nothing is
-/// added. It stands apart so that a cell of csv has one place alone where its body may grow.
+/// added. It stands apart so that before its text a cell of csv has one place alone where the body
+/// may grow.
 #[inline(never)]
 fn push_line_start(out: &mut Vec<u8>, spot: Spot) -> Result<(), Memory>
     requires json { spot.layout.format ≡ format.Json }

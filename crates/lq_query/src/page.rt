@@ -15,6 +15,7 @@ use lq_request::Request;
 use lq_schema::{Col, ColKind};
 use lq_tables::{Row, row_number, row_text};
 use std::alloc::Global;
+use std::slice::from_ref;
 
 /// How many rows are tested at once. More would keep those behind the last one that may be shown
 /// from being left alone, and fewer would turn from one test to the next too often.
@@ -208,7 +209,7 @@ impl Page<'_> {
             return Ok(());
         }
         selection.left -= 1;
-        self.push_row(writer, row)
+        self.push_each(writer, from_ref(row))
     }
 
     /// Adds the line of a row.

@@ -12,8 +12,8 @@ use lq_live::Live;
 use lq_records::Memory;
 use lq_schema::{Col, HostColumn, ObjectColumn, OwnColumn, ServiceColumn, Val};
 use lq_tables::{
-    Row, RowCells, host_number, host_text, joined_number, joined_text, row_contains, row_number,
-    row_text, service_number, service_text,
+    Row, RowCells, host_number, host_text, row_contains, row_number, row_text, service_number,
+    service_text,
 };
 use std::alloc::Global;
 
@@ -29,16 +29,15 @@ pub struct Sight<'a> {
 impl<'a> Sight<'a> {
     /// The number of a cell of a host or a service in a table of its own, or of the service's host,
     /// that the state holds as it is. It may give None for any cell, which is then found by what
-    /// its column is about.
+    /// its column is about. All that finds it is inlined into the loop over the rows: a result that
+    /// comes by way of memory is written there in halves and read as one, which costs more than
+    /// finding it.
     #[inline(always)]
     pub fn own_number(&self, row: &Row, column: Col) -> Option<i128>
         ensures { IfSome result (λ number. seen_cells self.now row.now column ≡ Number number) }
     {
         match column.own {
-            OwnColumn::Host(own) => match host_number(self.live, row, own) {
-                None => joined_number(self.live, row, own),
-                number => number,
-            },
+            OwnColumn::Host(own) => host_number(self.live, row, own),
             OwnColumn::Service(own) => service_number(self.live, row, own),
             _ => None,
         }
@@ -50,10 +49,7 @@ impl<'a> Sight<'a> {
         ensures { IfSome result (λ text. seen_cells self.now row.now column ≡ Words text.now) }
     {
         match column.own {
-            OwnColumn::Host(own) => match host_text(self.live, row, own) {
-                None => joined_text(self.live, row, own),
-                text => text,
-            },
+            OwnColumn::Host(own) => host_text(self.live, row, own),
             OwnColumn::Service(own) => service_text(self.live, row, own),
             _ => None,
         }

@@ -4,6 +4,7 @@ ghost use Rattle.std.specs.Prelude.{◌≡◌};
 ghost use Rattle.std.specs.List.{slice_get};
 ghost use Rattle.std.specs.Option.{option_and_then, option_copied, option_map};
 ghost use Rattle.lq_columns.specs.Cells.{host_record, service_record};
+ghost use Rattle.lq_records.specs.declared.object.Object.TheVariants as object;
 ghost use Rattle.lq_tables.specs.About.{comment_with, downtime_with, host_of_object, row_command, row_comment, row_contact, row_contact_group, row_downtime, row_entry, row_host_group_id, row_line, row_object, row_period, row_service_group_id, row_slice, service_of_object};
 
 use crate::history_row::HistoryRow;
@@ -14,7 +15,8 @@ use lq_events::{Comment, Downtime, LogEntry};
 use lq_live::Live;
 use lq_log::object_of;
 use lq_records::{
-    Base, Command, Contact, ContactGroup, HostGroupId, Object, Period, ServiceGroupId,
+    Base, Command, Contact, ContactGroup, HostGroupId, HostId, Object, Period, ServiceGroupId,
+    ServiceId,
 };
 
 // ---- downtimes and comments
@@ -134,10 +136,22 @@ pub(crate) fn host_of(live: &Live, object: Option<Object>) -> Option<HostRow<'_>
 {
     match object {
         Some(Object::Host(id)) => HostRow::at(live, id),
-        Some(Object::Service(id)) => match ServiceRow::at(live, id) {
-            Some(about) => HostRow::at(live, about.service.host),
-            None => None,
-        },
+        Some(Object::Service(id)) => host_of_service(live, id),
+        None => None,
+    }
+}
+
+/// The host that a service runs on. Its place is read from the list of all such places, which lie
+/// close together, so that nothing waits for the record of the service.
+#[inline(always)]
+fn host_of_service(live: &Live, id: ServiceId) -> Option<HostRow<'_>>
+    ensures { option_map host_record result ≡ host_of_object live.now.state (object.Service id) }
+{
+    // Tells the proof that each service has a status.
+    let _ = live.service_statuses();
+    let owners = live.base().services.contact_index().owners;
+    match owners.get(id.0 as usize) {
+        Some(place) => HostRow::at(live, HostId(*place)),
         None => None,
     }
 }

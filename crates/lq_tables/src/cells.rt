@@ -249,37 +249,26 @@ pub fn row_number(live: &Live, row: &Row, c: Col) -> Option<i128>
     }
 }
 
-/// The number of a column of hosts where the row is a host of their table, as `row_number` gives
-/// it; None for any other row. A loop over that table's rows has no other row to look for.
+/// The number of a column of hosts where the row is a host or a service in a table of its own, of
+/// the service's host then, as `row_number` gives it; None for any other row. A loop over such rows
+/// has no other row to look for.
 #[inline(always)]
 pub fn host_number(live: &Live, row: &Row, column: HostColumn) -> Option<i128>
     ensures value { (view : View) → IfSome result (λ number.
         own_cell live.now.state view row.now (own.Host column) ≡ Number number) }
     ensures given { IsHost live.now.state row.now → HasNumbers (host_kind column)
         → IsHeldByHost column → IsSome result }
-{
-    match row {
-        Row::Host(id) => HostRow::at(live, *id)?.number(column),
-        _ => None,
-    }
-}
-
-/// The number of a column of hosts where the row is a service of their table: that of its host, as
-/// `row_number` gives it; None for any other row. It stands apart so that a cell of the table's own
-/// keeps no room for it.
-#[inline(never)]
-pub fn joined_number(live: &Live, row: &Row, column: HostColumn) -> Option<i128>
-    ensures value { (view : View) → IfSome result (λ number.
-        own_cell live.now.state view row.now (own.Host column) ≡ Number number) }
-    ensures given { IsService live.now.state row.now → HasNumbers (host_kind column)
+    ensures joined { IsService live.now.state row.now → HasNumbers (host_kind column)
         → IsHeldByHost column → IsSome result }
 {
-    match row {
-        Row::Service(id) => match host_of(live, Some(Object::Service(*id))) {
-            Some(host) => host.number(column),
-            None => empty_number(OwnColumn::Host(column).kind()),
-        },
-        _ => None,
+    let host = match row {
+        Row::Host(id) => HostRow::at(live, *id),
+        Row::Service(id) => host_of(live, Some(Object::Service(*id))),
+        _ => return None,
+    };
+    match host {
+        Some(host) => host.number(column),
+        None => empty_number(OwnColumn::Host(column).kind()),
     }
 }
 
@@ -330,35 +319,24 @@ pub fn service_status_number(statuses: &[Status], row: &Row, column: StatusColum
     }
 }
 
-/// The text of a column of hosts where the row is a host of their table, as `row_text` gives it;
-/// None for any other row.
+/// The text of a column of hosts where the row is a host or a service in a table of its own, of the
+/// service's host then, as `row_text` gives it; None for any other row.
 #[inline(always)]
 pub fn host_text<'a>(live: &'a Live, row: &Row, column: HostColumn) -> Option<&'a str>
     ensures value { (view : View) → IfSome result (λ text.
         own_cell live.now.state view row.now (own.Host column) ≡ Words text.now) }
     ensures given { IsHost live.now.state row.now → HasTexts (host_kind column) → IsSome result }
-{
-    match row {
-        Row::Host(id) => HostRow::at(live, *id)?.text(column),
-        _ => None,
-    }
-}
-
-/// The text of a column of hosts where the row is a service of their table: that of its host, as
-/// `row_text` gives it; None for any other row. It stands apart as `joined_number` does.
-#[inline(never)]
-pub fn joined_text<'a>(live: &'a Live, row: &Row, column: HostColumn) -> Option<&'a str>
-    ensures value { (view : View) → IfSome result (λ text.
-        own_cell live.now.state view row.now (own.Host column) ≡ Words text.now) }
-    ensures given { IsService live.now.state row.now → HasTexts (host_kind column)
+    ensures joined { IsService live.now.state row.now → HasTexts (host_kind column)
         → IsSome result }
 {
-    match row {
-        Row::Service(id) => match host_of(live, Some(Object::Service(*id))) {
-            Some(host) => host.text(column),
-            None => empty_text(OwnColumn::Host(column).kind()),
-        },
-        _ => None,
+    let host = match row {
+        Row::Host(id) => HostRow::at(live, *id),
+        Row::Service(id) => host_of(live, Some(Object::Service(*id))),
+        _ => return None,
+    };
+    match host {
+        Some(host) => host.text(column),
+        None => empty_text(OwnColumn::Host(column).kind()),
     }
 }
 

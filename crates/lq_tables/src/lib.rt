@@ -23,9 +23,9 @@ mod value;
 mod window;
 
 pub use cells::{
-    RowCells, cell, host_lists_contact, host_number, host_status_number, host_text, joined_number,
-    joined_text, row_contains, row_number, row_text, service_lists_contact, service_number,
-    service_status_number, service_text,
+    RowCells, cell, host_lists_contact, host_number, host_status_number, host_text, row_contains,
+    row_number, row_text, service_lists_contact, service_number, service_status_number,
+    service_text,
 };
 pub use history_row::{BoxedHistoryRow, HistoryRow};
 pub use row::Row;
