@@ -11,6 +11,13 @@ use lq_events::LogEntry;
 use lq_records::{Memory, Text};
 use std::alloc::Global;
 
+/// Room for a second in brackets, of 20 digits at most, and the blank after it. A line that has its
+/// room at once is moved no more as it grows.
+const STAMP_BYTES: usize = 23;
+
+/// Room for what stands before an external command.
+const EXTERNAL_BYTES: usize = 18;
+
 /// What happens to a downtime.
 #[derive(Clone, Copy)]
 pub enum DowntimeChange {
@@ -78,7 +85,8 @@ pub fn make_line(alloc: Global, time: u64, form: &Form) -> Result<LogEntry, Memo
 fn stamped(alloc: Global, time: u64, text: &str) -> Result<Text, Memory>
     ensures { IfOk result (λ line. line ≡ stamped time text.now) }
 {
-    let mut line = String::from_str(alloc, "[")?;
+    let mut line = String::with_capacity(alloc, text.len() + STAMP_BYTES)?;
+    line.push_str("[")?;
     line.push_str(time.to_string(alloc)?.as_str())?;
     line.push_str("] ")?;
     line.push_str(text)?;
@@ -116,7 +124,8 @@ fn form_text(alloc: Global, form: &Form) -> Result<String, Memory>
 fn external_text(alloc: Global, command: &str) -> Result<String, Memory>
     ensures { IfOk result (λ text. string_bytes text ≡ codes "EXTERNAL COMMAND: " ++ command.now) }
 {
-    let mut text = String::from_str(alloc, "EXTERNAL COMMAND: ")?;
+    let mut text = String::with_capacity(alloc, command.len() + EXTERNAL_BYTES)?;
+    text.push_str("EXTERNAL COMMAND: ")?;
     text.push_str(command)?;
     Ok(text)
 }
