@@ -119,6 +119,7 @@ impl<'a> Line<'a> {
     }
 
     /// The word after `define`, where the line opens a block.
+    #[inline(always)]
     pub(crate) fn opened_word(&self) -> Option<&'a [u8]>
         ensures { option_copied result ≡ opened_word self.now.text }
     {
@@ -171,6 +172,7 @@ fn is_telling(text: &[u8]) -> bool
     !text.is_empty() && text[0] != b'#'
 }
 
+#[inline(always)]
 fn opened_word(text: &[u8]) -> Option<&[u8]>
     ensures { option_copied result ≡ opened_word text.now }
 {
@@ -181,17 +183,20 @@ fn opened_word(text: &[u8]) -> Option<&[u8]>
     }
 }
 
+#[inline(always)]
 fn is_opening(text: &[u8]) -> bool
     ensures value { result ≡ is_opening_text text.now }
     ensures long { IsTrue result → 6 < length text.now }
 {
+    // The last byte comes first, since it alone tells most lines.
     text.len() > 6
-        && text.starts_with(b"define".as_slice())
-        && is_blank(text[6])
         && text[text.len() - 1] == b'{'
+        && is_blank(text[6])
+        && text.starts_with(b"define".as_slice())
 }
 
 /// The one word of a text, where it has exactly one.
+#[inline(never)]
 fn single_word(text: &[u8]) -> Option<&[u8]>
     ensures { option_copied result ≡ one_word text.now }
 {
