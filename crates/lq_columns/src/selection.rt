@@ -108,12 +108,13 @@ fn marks_in(alloc: Global, base: &Base, scope: Scope) -> Vec<bool>
     }
 }
 
-/// Whether the service at a place is one of a host.
+/// Whether the service at a place is one of a host, by the list of the hosts of all services: a
+/// walk over all of them would have to fetch each service's record.
 pub(crate) fn is_service_of(base: &Base, id: HostId, place: usize) -> bool
     ensures { result ≡ is_service_of base.now id place }
 {
-    match base.services.as_slice().get(place) {
-        Some(service) => service.host.0 == id.0,
+    match base.services.contact_index().owners.get(place) {
+        Some(host) => *host == id.0,
         None => false,
     }
 }
@@ -122,12 +123,8 @@ fn is_marked_host(base: &Base, group: HostGroupId, marks: &[bool], place: usize)
     requires { AreMarks (has_place (λ id. id.0) (group_members base.now group)) marks.now }
     ensures { result ≡ is_group_service base.now group place }
 {
-    match base.services.as_slice().get(place) {
-        Some(service) => has_marked(
-            members_of_hosts(base, group),
-            marks,
-            service.host.0 as usize,
-        ),
+    match base.services.contact_index().owners.get(place) {
+        Some(host) => has_marked(members_of_hosts(base, group), marks, *host as usize),
         None => false,
     }
 }

@@ -1,5 +1,6 @@
 ghost use Rattle.std.specs.Prelude.{◌≡◌, ◌<◌, ◌↔◌, ◌++◌, ◌∷◌, ℕ, List, [], Some, length, map, IfOk, IfSome, IsTrue, OnOk};
 ghost use Rattle.std.specs.List.{slice_get};
+ghost use Rattle.std.specs.Option.{option_copied, option_map};
 ghost use Rattle.lq_records.specs.Contacts.{AreListsOf, IsIndexOf, lists_of};
 ghost use Rattle.lq_records.specs.Named.{host_named, service_named};
 ghost use Rattle.lq_records.specs.declared.base.ObjectFields.{ObjectFields};
@@ -10,6 +11,7 @@ use crate::base::{Host, ObjectFields, Service};
 use crate::ids::{ContactGroupId, ContactId, HostId, ServiceId};
 use crate::items::Items;
 use crate::named::{NamedItems, NamedObject};
+use crate::text::Text;
 use std::alloc::{AllocError, Global};
 use std::marker::Model;
 
@@ -163,6 +165,15 @@ impl<T: MonitoredObject> MonitoredItems<T> {
         ensures { result.now ≡ self.now }
     {
         self.items.as_slice()
+    }
+
+    /// The name of the item at a place, as `name_at` of `NamedItems` gives it.
+    #[inline(always)]
+    pub fn name_at(&self, place: usize) -> Option<&(Text, Text)>
+        ensures { option_copied result
+            ≡ option_map T.NamedObject.name_of (slice_get self.now place) }
+    {
+        self.items.name_at(place)
     }
 
     /// Their contacts, and the places of their owners.

@@ -1,5 +1,6 @@
 ghost use Rattle.std.specs.Prelude.{◌≡◌, ◌<◌, ◌^◌, ◌↔◌, ℕ, List, [], length, map, IfSome, IsTrue};
-ghost use Rattle.std.specs.List.{position};
+ghost use Rattle.std.specs.List.{position, slice_get};
+ghost use Rattle.std.specs.Option.{option_copied, option_map};
 ghost use Rattle.lq_records.specs.Named.{has_name, contact_group_named, contact_named, host_group_named, host_named, service_group_named, service_named};
 
 use crate::base::{Contact, ContactGroup, Host, HostGroup, Service, ServiceGroup};
@@ -73,6 +74,15 @@ impl<T: NamedObject> NamedItems<T> {
         ensures { result.now ≡ self.now }
     {
         self.items.as_slice()
+    }
+
+    /// The name of the item at a place, which lies beside the names of the others: who goes over
+    /// names alone looks at no item. None after the last one.
+    #[inline(always)]
+    pub fn name_at(&self, place: usize) -> Option<&(Text, Text)>
+        ensures { option_copied result ≡ option_map T.name_of (slice_get self.now place) }
+    {
+        self.names.get_index(place)
     }
 
     /// The place of the item with a name. None where no item has it.

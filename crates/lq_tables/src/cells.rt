@@ -1,6 +1,7 @@
 ghost use Rattle.std.specs.Prelude.{◌≡◌, ℕ, IfOk, IsOk, List};
-ghost use Rattle.std.specs.Option.{IfSome, IsSome};
+ghost use Rattle.std.specs.Option.{IfSome, IsSome, option_map};
 ghost use Rattle.lq_auth.specs.declared.view.View.{View};
+ghost use Rattle.lq_columns.specs.Cells.{host_at};
 ghost use Rattle.lq_columns.specs.Names.{IsContactNamed, has_text};
 ghost use Rattle.lq_columns.specs.Plain.{HasNumbers, HasTexts, IsHeldByHost, IsHeldByService, IsHeldByStatus};
 ghost use Rattle.lq_live.specs.State.{State};
@@ -38,7 +39,7 @@ use lq_auth::View;
 use lq_columns::{HostRow, ServiceRow, empty_number, empty_text, empty_value, status_number};
 use lq_events::{Comment, Downtime, LogEntry, Status};
 use lq_live::Live;
-use lq_records::{ContactId, Memory, Object};
+use lq_records::{ContactId, HostId, Memory, Object};
 use lq_schema::{
     Col, ColKind, HostColumn, OwnColumn, ServiceColumn, StatusColumn, Table, Val, kind,
 };
@@ -319,6 +320,58 @@ pub fn service_status_number(statuses: &[Status], row: &Row, column: StatusColum
     }
 }
 
+/// The name of the host with an id. Names lie side by side, so that no record is fetched for one.
+#[inline(always)]
+fn name_of_host(live: &Live, id: HostId) -> Option<&str>
+    ensures { option_map (λ text. text.now) result
+        ≡ option_map (λ about. about.host.host_name) (host_at live.now.state id) }
+{
+    // Tells the proof that each host has a status.
+    let _ = live.host_statuses();
+    match live.base().hosts.name_at(id.0 as usize) {
+        Some(name) => Some(name.0.as_str()),
+        None => None,
+    }
+}
+
+/// The name of a host in a table of its own, or of a service's host.
+#[inline(always)]
+fn host_name<'a>(live: &'a Live, row: &Row) -> Option<&'a str>
+    ensures value { (view : View) → IfSome result (λ text.
+        own_cell live.now.state view row.now (own.Host host_column.Name) ≡ Words text.now) }
+    ensures given { IsHost live.now.state row.now → IsSome result }
+    ensures joined { IsService live.now.state row.now → IsSome result }
+{
+    match row {
+        Row::Host(id) => name_of_host(live, *id),
+        Row::Service(id) => {
+            // Tells the proof that each service has a status.
+            let _ = live.service_statuses();
+            let owners = live.base().services.contact_index().owners;
+            let place = owners.get(id.0 as usize)?;
+            // As for any cell, a host that isn't there would have an empty text.
+            Some(name_of_host(live, HostId(*place)).unwrap_or(""))
+        }
+        _ => None,
+    }
+}
+
+/// The description of a service in a table of its own.
+#[inline(always)]
+fn service_description<'a>(live: &'a Live, row: &Row) -> Option<&'a str>
+    ensures value { (view : View) → IfSome result (λ text.
+        own_cell live.now.state view row.now (own.Service service_column.Description)
+        ≡ Words text.now) }
+    ensures given { IsService live.now.state row.now → IsSome result }
+{
+    // Tells the proof that each service has a status.
+    let _ = live.service_statuses();
+    match row {
+        Row::Service(id) => Some(live.base().services.name_at(id.0 as usize)?.1.as_str()),
+        _ => None,
+    }
+}
+
 /// The text of a column of hosts where the row is a host or a service in a table of its own, of the
 /// service's host then, as `row_text` gives it; None for any other row.
 #[inline(always)]
@@ -329,6 +382,9 @@ pub fn host_text<'a>(live: &'a Live, row: &Row, column: HostColumn) -> Option<&'
     ensures joined { IsService live.now.state row.now → HasTexts (host_kind column)
         → IsSome result }
 {
+    if let HostColumn::Name = column {
+        return host_name(live, row);
+    }
     let host = match row {
         Row::Host(id) => HostRow::at(live, *id),
         Row::Service(id) => host_of(live, Some(Object::Service(*id))),
@@ -349,6 +405,9 @@ pub fn service_text<'a>(live: &'a Live, row: &Row, column: ServiceColumn) -> Opt
     ensures given { IsService live.now.state row.now → HasTexts (service_kind column)
         → IsSome result }
 {
+    if let ServiceColumn::Description = column {
+        return service_description(live, row);
+    }
     match row {
         Row::Service(id) => ServiceRow::at(live, *id)?.text(column),
         _ => None,
