@@ -29,9 +29,8 @@ pub struct Sight<'a> {
 impl<'a> Sight<'a> {
     /// The number of a cell of a host or a service in a table of its own, or of the service's host,
     /// that the state holds as it is. It may give None for any cell, which is then found by what
-    /// its column is about. All that finds it is inlined into the loop over the rows: a result that
-    /// comes by way of memory is written there in halves and read as one, which costs more than
-    /// finding it.
+    /// its column is about. All that finds it is inlined into the loop over the rows, which was
+    /// faster than a call.
     #[inline(always)]
     pub fn own_number(&self, row: &Row, column: Col) -> Option<i128>
         ensures { IfSome result (λ number. seen_cells self.now row.now column ≡ Number number) }
