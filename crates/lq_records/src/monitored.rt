@@ -167,7 +167,8 @@ impl<T: MonitoredObject> MonitoredItems<T> {
         self.items.as_slice()
     }
 
-    /// The name of the item at a place, as `name_at` of `NamedItems` gives it.
+    /// The name of the item at a place, in its two parts, as `name_at` of `NamedItems` gives it.
+    /// None after the last one.
     #[inline(always)]
     pub fn name_at(&self, place: usize) -> Option<&(Text, Text)>
         ensures { option_copied result

@@ -76,8 +76,9 @@ impl<T: NamedObject> NamedItems<T> {
         self.items.as_slice()
     }
 
-    /// The name of the item at a place, which lies beside the names of the others: who goes over
-    /// names alone looks at no item. None after the last one.
+    /// The name of the item at a place, in its two parts: of a service its host's name and its
+    /// description, of any other item its own name and an empty text. It lies beside the names of
+    /// the others: who goes over names alone looks at no item. None after the last one.
     #[inline(always)]
     pub fn name_at(&self, place: usize) -> Option<&(Text, Text)>
         ensures { option_copied result ≡ option_map T.name_of (slice_get self.now place) }
