@@ -75,95 +75,142 @@ const PROGRAM: &[&str] = &[
     "num_services I,present_second I",
 ];
 
+/// What columns of a table stand together.
+#[derive(Clone, Copy)]
+enum Part {
+    Host,
+    Service,
+    HostGroup,
+    ServiceGroup,
+    Contact,
+    ContactGroup,
+    Command,
+    TimePeriod,
+    Downtime,
+    Comment,
+    Line,
+    Program,
+    Column,
+    Slice,
+}
+
+impl Part {
+    fn blocks(self) -> &'static [&'static str] {
+        match self {
+            Part::Host => HOST,
+            Part::Service => SERVICE,
+            Part::HostGroup => HOST_GROUP,
+            Part::ServiceGroup => SERVICE_GROUP,
+            Part::Contact => CONTACT,
+            Part::ContactGroup => &["name S,alias S,members L"],
+            Part::Command => &["name S,line S"],
+            Part::TimePeriod => &["name S,alias S,in I"],
+            Part::Downtime => DOWNTIME,
+            Part::Comment => COMMENT,
+            Part::Line => LINE,
+            Part::Program => PROGRAM,
+            Part::Column => &["table S,name S,type S,description S"],
+            Part::Slice => SLICE,
+        }
+    }
+}
+
 /// A prefix, and the columns after it.
-type Joined = (&'static str, &'static [&'static str]);
+type Joined = (&'static str, Part);
 
 /// A table's name, its own prefix, how many columns it has, and which.
 type Listed = (&'static str, &'static str, usize, &'static [Joined]);
 
 const LISTED: &[Listed] = &[
-    ("hosts", "host_", 46, &[("", HOST)]),
+    ("hosts", "host_", 46, &[("", Part::Host)]),
     (
         "services",
         "service_",
         80,
-        &[("", SERVICE), ("host_", HOST)],
+        &[("", Part::Service), ("host_", Part::Host)],
     ),
-    ("hostgroups", "hostgroup_", 19, &[("", HOST_GROUP)]),
-    ("servicegroups", "servicegroup_", 13, &[("", SERVICE_GROUP)]),
-    ("contacts", "contact_", 6, &[("", CONTACT)]),
+    ("hostgroups", "hostgroup_", 19, &[("", Part::HostGroup)]),
+    (
+        "servicegroups",
+        "servicegroup_",
+        13,
+        &[("", Part::ServiceGroup)],
+    ),
+    ("contacts", "contact_", 6, &[("", Part::Contact)]),
     (
         "contactgroups",
         "contactgroup_",
         3,
-        &[("", &["name S,alias S,members L"])],
+        &[("", Part::ContactGroup)],
     ),
-    ("commands", "command_", 2, &[("", &["name S,line S"])]),
-    (
-        "timeperiods",
-        "timeperiod_",
-        3,
-        &[("", &["name S,alias S,in I"])],
-    ),
+    ("commands", "command_", 2, &[("", Part::Command)]),
+    ("timeperiods", "timeperiod_", 3, &[("", Part::TimePeriod)]),
     (
         "downtimes",
         "downtime_",
         90,
-        &[("", DOWNTIME), ("host_", HOST), ("service_", SERVICE)],
+        &[
+            ("", Part::Downtime),
+            ("host_", Part::Host),
+            ("service_", Part::Service),
+        ],
     ),
     (
         "comments",
         "comment_",
         87,
-        &[("", COMMENT), ("host_", HOST), ("service_", SERVICE)],
+        &[
+            ("", Part::Comment),
+            ("host_", Part::Host),
+            ("service_", Part::Service),
+        ],
     ),
     (
         "log",
         "log_",
         94,
         &[
-            ("", LINE),
-            ("current_host_", HOST),
-            ("current_service_", SERVICE),
+            ("", Part::Line),
+            ("current_host_", Part::Host),
+            ("current_service_", Part::Service),
         ],
     ),
-    ("status", "status_", 5, &[("", PROGRAM)]),
-    (
-        "columns",
-        "column_",
-        4,
-        &[("", &["table S,name S,type S,description S"])],
-    ),
+    ("status", "status_", 5, &[("", Part::Program)]),
+    ("columns", "column_", 4, &[("", Part::Column)]),
     (
         "hostsbygroup",
         "host_",
         65,
-        &[("", HOST), ("hostgroup_", HOST_GROUP)],
+        &[("", Part::Host), ("hostgroup_", Part::HostGroup)],
     ),
     (
         "servicesbygroup",
         "service_",
         93,
         &[
-            ("", SERVICE),
-            ("host_", HOST),
-            ("servicegroup_", SERVICE_GROUP),
+            ("", Part::Service),
+            ("host_", Part::Host),
+            ("servicegroup_", Part::ServiceGroup),
         ],
     ),
     (
         "servicesbyhostgroup",
         "service_",
         99,
-        &[("", SERVICE), ("host_", HOST), ("hostgroup_", HOST_GROUP)],
+        &[
+            ("", Part::Service),
+            ("host_", Part::Host),
+            ("hostgroup_", Part::HostGroup),
+        ],
     ),
     (
         "statehist",
         "statehist_",
         100,
         &[
-            ("", SLICE),
-            ("current_host_", HOST),
-            ("current_service_", SERVICE),
+            ("", Part::Slice),
+            ("current_host_", Part::Host),
+            ("current_service_", Part::Service),
         ],
     ),
 ];
@@ -253,8 +300,8 @@ impl Expected {
         Ok(())
     }
 
-    fn push_joined(&mut self, table: &str, (prefix, blocks): Joined) -> Result<(), Fail> {
-        for block in blocks {
+    fn push_joined(&mut self, table: &str, (prefix, part): Joined) -> Result<(), Fail> {
+        for block in part.blocks() {
             self.push_block(table, prefix, *block)?;
         }
         Ok(())

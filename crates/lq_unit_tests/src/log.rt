@@ -509,61 +509,76 @@ fn line_of(alloc: Global, length: usize, end: &[u8]) -> Result<Vec<u8>, AllocErr
     Ok(line)
 }
 
-#[test]
-fn a_line_of_a_log_has_8_192_bytes_at_most(rt: HostRuntime) -> Result<(), Fail> {
-    let alloc = rt.alloc();
-    let ends: [&[u8]; 3] = [b"", b"\n", b"\r\n"];
-    for end in ends {
-        let longest = line_of(alloc, 8192, end)?;
-        assert_eq!(rt; fault(alloc, &longest)?.as_str(), "1 entries", "at {end:?}");
-        let longer = line_of(alloc, 8193, end)?;
-        assert_eq!(rt;
-            fault(alloc, &longer)?.as_str(),
-            "line 1: line too long",
-            "at {end:?}"
-        );
-    }
-    // At the end of the log a carriage return is a part of its line.
-    let returned = line_of(alloc, 8192, b"\r")?;
-    assert_eq!(rt; fault(alloc, &returned)?.as_str(), "line 1: line too long");
-    let mut later = Vec::from_slice(alloc, b"\n[1] a\n")?;
-    later.extend_from_slice(&line_of(alloc, 9000, b"\n")?)?;
-    later.extend_from_slice(&line_of(alloc, 9001, b"\n")?)?;
-    assert_eq!(rt; fault(alloc, &later)?.as_str(), "line 3: line too long");
+/// Reads a log, and compares its fault, or how many entries it has.
+fn assert_fault<R: Abort + AllocGlobal>(rt: &R, log: &[u8], expected: &str) -> Result<(), Fail> {
+    let found = fault(rt.alloc(), log)?;
+    assert_eq!(rt; found.as_str(), expected);
     Ok(())
 }
 
-/// So many empty lines, and then a last piece.
-fn empty_lines(alloc: Global, count: usize, last: &[u8]) -> Result<Vec<u8>, AllocError> {
-    let mut log = Vec::with_capacity(alloc, count)?;
-    push_many(&mut log, b'\n', count)?;
-    log.extend_from_slice(last)?;
+const TOO_LONG: &str = "line 1: line too long";
+
+/// How many bytes a line has, its end, and what a log of this line gives. At the end of the log a
+/// carriage return is a part of its line.
+const LENGTHS: &[(usize, &[u8], &str)] = &[
+    (8192, b"", "1 entries"),
+    (8193, b"", TOO_LONG),
+    (8192, b"\n", "1 entries"),
+    (8193, b"\n", TOO_LONG),
+    (8192, b"\r\n", "1 entries"),
+    (8193, b"\r\n", TOO_LONG),
+    (8192, b"\r", TOO_LONG),
+];
+
+/// An empty line, an entry, and two lines that are too long.
+fn later_lines(alloc: Global) -> Result<Vec<u8>, AllocError> {
+    let mut log = Vec::from_slice(alloc, b"\n[1] a\n")?;
+    log.extend_from_slice(&line_of(alloc, 9000, b"\n")?)?;
+    log.extend_from_slice(&line_of(alloc, 9001, b"\n")?)?;
     Ok(log)
 }
 
 #[test]
+fn a_line_of_a_log_has_8_192_bytes_at_most(rt: HostRuntime) -> Result<(), Fail> {
+    for (length, end, expected) in LENGTHS {
+        let log = line_of(rt.alloc(), *length, *end)?;
+        assert_fault(&rt, &log, *expected)?;
+    }
+    assert_fault(&rt, &later_lines(rt.alloc())?, "line 3: line too long")
+}
+
+const TOO_MANY: &str = "line 200001: too many lines";
+
+/// Reads so many empty lines and a last piece, and compares as `assert_fault` does.
+fn assert_counted<R: Abort + AllocGlobal>(
+    rt: &R,
+    count: usize,
+    last: &[u8],
+    expected: &str,
+) -> Result<(), Fail> {
+    let mut log = Vec::with_capacity(rt.alloc(), count)?;
+    push_many(&mut log, b'\n', count)?;
+    log.extend_from_slice(last)?;
+    assert_fault(rt, &log, expected)
+}
+
+/// Reads a line that is too long, and then one line too many.
+fn assert_first_fault<R: Abort + AllocGlobal>(rt: &R, long: &[u8]) -> Result<(), Fail> {
+    let mut log = Vec::from_slice(rt.alloc(), long)?;
+    push_many(&mut log, b'\n', 200_000)?;
+    log.push(b'x')?;
+    assert_fault(rt, &log, TOO_LONG)
+}
+
+#[test]
 fn a_log_has_200_000_lines_at_most(rt: HostRuntime) -> Result<(), Fail> {
-    let alloc = rt.alloc();
-    let most = empty_lines(alloc, 199_999, b"[1] a")?;
-    assert_eq!(rt; fault(alloc, &most)?.as_str(), "1 entries");
-    let whole = empty_lines(alloc, 200_000, b"")?;
-    assert_eq!(rt; fault(alloc, &whole)?.as_str(), "0 entries");
-    let more = empty_lines(alloc, 200_000, b"x")?;
-    assert_eq!(rt;
-        fault(alloc, &more)?.as_str(),
-        "line 200001: too many lines"
-    );
+    assert_counted(&rt, 199_999, b"[1] a", "1 entries")?;
+    assert_counted(&rt, 200_000, b"", "0 entries")?;
+    assert_counted(&rt, 200_000, b"x", TOO_MANY)?;
+    let long = line_of(rt.alloc(), 9000, b"\n")?;
     // A line that passes both limits is one too many.
-    let both = empty_lines(alloc, 200_000, &line_of(alloc, 9000, b"\n")?)?;
-    assert_eq!(rt;
-        fault(alloc, &both)?.as_str(),
-        "line 200001: too many lines"
-    );
-    let before = line_of(alloc, 9000, b"\n")?;
-    let mut first = before;
-    first.extend_from_slice(&more)?;
-    assert_eq!(rt; fault(alloc, &first)?.as_str(), "line 1: line too long");
-    Ok(())
+    assert_counted(&rt, 200_000, &long, TOO_MANY)?;
+    assert_first_fault(&rt, &long)
 }
 
 #[test]

@@ -9,23 +9,28 @@ use std::io::{self, ErrorKind, Read, Write};
 use std::test::Fail;
 use std::{env, fs, process};
 
+/// What reads of three bytes give: how many bytes, what the buffer holds then, what is left, and
+/// how many reads have failed.
+const READS: &[(Result<usize, Failed>, &[u8], &[u8], u64)] = &[
+    (Ok(3), b"abc", b"de", 0),
+    (Err(Failed), b"abc", b"de", 1),
+    (Ok(2), b"dec", b"", 1),
+    (Ok(0), b"dec", b"", 1),
+    (Err(Failed), b"dec", b"", 2),
+];
+
 #[test]
 fn a_source_in_memory_fails_at_its_numbers(rt: HostRuntime) -> Result<(), Fail> {
     let alloc = rt.alloc();
     let bytes = Vec::from_slice(alloc, b"abcde")?;
     let mut source = MemSource::new(alloc, bytes, vec![in alloc; 1, 4]?)?;
     let mut buf = [0u8; 3];
-    assert!(rt; source.read(&mut buf) == Ok(3));
-    assert!(rt; buf == *b"abc");
-    assert!(rt; source.read(&mut buf) == Err(Failed));
-    assert!(rt; source.left() == b"de".as_slice());
-    assert!(rt; source.faults() == 1);
-    assert!(rt; source.read(&mut buf) == Ok(2));
-    assert!(rt; buf == *b"dec");
-    assert!(rt; source.read(&mut buf) == Ok(0));
-    assert!(rt; source.faults() == 1);
-    assert!(rt; source.read(&mut buf) == Err(Failed));
-    assert!(rt; source.faults() == 2);
+    for (count, held, left, faults) in READS {
+        assert!(rt; source.read(&mut buf) == *count);
+        assert!(rt; buf.as_slice() == *held);
+        assert!(rt; source.left() == *left);
+        assert!(rt; source.faults() == *faults);
+    }
     Ok(())
 }
 
@@ -34,43 +39,53 @@ fn a_steady_source_gives_all_its_bytes(rt: HostRuntime) -> Result<(), Fail> {
     let alloc = rt.alloc();
     let mut source = SteadySource::new(alloc, Vec::from_slice(alloc, b"abc")?)?;
     let mut buf = [0u8; 2];
-    assert!(rt; source.read(&mut buf) == Ok(2));
-    assert!(rt; source.left() == b"c".as_slice());
-    assert!(rt; source.read(&mut buf) == Ok(1));
-    assert!(rt; source.read(&mut buf) == Ok(0));
-    assert!(rt; buf == *b"cb");
+    let reads: &[(usize, &[u8], &[u8])] = &[(2, b"ab", b"c"), (1, b"cb", b""), (0, b"cb", b"")];
+    for (count, held, left) in reads {
+        assert!(rt; source.read(&mut buf) == Ok(*count));
+        assert!(rt; buf.as_slice() == *held);
+        assert!(rt; source.left() == *left);
+    }
     assert!(rt; source.faults() == 0);
     Ok(())
 }
 
+/// Pieces, and what their writes give.
+const WRITES: &[(&[u8], Result<usize, Failed>)] = &[
+    (b"ab", Ok(2)),
+    (b"cd", Err(Failed)),
+    (b"", Ok(0)),
+    (b"ef", Ok(2)),
+];
+
 #[test]
 fn a_sink_in_memory_fails_at_its_numbers(rt: HostRuntime) -> Result<(), Fail> {
     let mut sink = MemSink::new(rt.alloc(), vec![in rt.alloc(); 1]?)?;
-    assert!(rt; sink.write(b"ab") == Ok(2));
-    assert!(rt; sink.write(b"cd") == Err(Failed));
-    assert!(rt; sink.write(b"") == Ok(0));
-    assert!(rt; sink.write(b"ef") == Ok(2));
+    for (piece, count) in WRITES {
+        assert!(rt; sink.write(*piece) == *count);
+    }
     assert!(rt; sink.held() == b"abef".as_slice());
     assert!(rt; sink.faults() == 1);
     Ok(())
 }
 
-fn pair(alloc: Global, path: &str, bytes: &[u8]) -> Result<(String, Vec<u8>), Memory> {
-    Ok((
-        String::from_str(alloc, path)?,
-        Vec::from_slice(alloc, bytes)?,
-    ))
+const FILES: &[(&str, &[u8])] = &[("a", b"one"), ("b", b"two!"), ("a", b"later")];
+
+fn pairs(alloc: Global) -> Result<Vec<(String, Vec<u8>)>, Memory> {
+    let mut pairs = Vec::new(alloc);
+    for (path, bytes) in FILES {
+        pairs.push((
+            String::from_str(alloc, *path)?,
+            Vec::from_slice(alloc, *bytes)?,
+        ))?;
+    }
+    Ok(pairs)
 }
 
 #[test]
 fn files_in_memory_answer_by_path_number_and_length(rt: HostRuntime) -> Result<(), Fail> {
     let alloc = rt.alloc();
-    let mut pairs = Vec::new(alloc);
-    pairs.push(pair(alloc, "a", b"one")?)?;
-    pairs.push(pair(alloc, "b", b"two!")?)?;
-    pairs.push(pair(alloc, "a", b"later")?)?;
-    let mut files = MemFiles::new(alloc, pairs, vec![in alloc; 2, 3]?)?;
-    let cases: [(&str, u64, Result<&[u8], LoadErr>, u64); 6] = [
+    let mut files = MemFiles::new(alloc, pairs(alloc)?, vec![in alloc; 2, 3]?)?;
+    let cases: &[(&str, u64, Result<&[u8], LoadErr>, u64)] = &[
         ("a", 3, Ok(b"one"), 0),
         ("c", 9, Err(LoadErr::Missing), 1),
         ("b", 9, Err(LoadErr::Failed), 2),
@@ -79,11 +94,23 @@ fn files_in_memory_answer_by_path_number_and_length(rt: HostRuntime) -> Result<(
         ("b", 4, Ok(b"two!"), 3),
     ];
     for (path, most, expected, faults) in cases {
-        let loaded = files.load(alloc, path, most);
-        assert!(rt; is_answer(&loaded, expected), "at {path} {most}");
-        assert!(rt; files.faults() == faults);
+        assert!(rt;
+            is_loaded(alloc, &mut files, (*path, *most), *expected),
+            "at {path} {most}"
+        );
+        assert!(rt; files.faults() == *faults);
     }
     Ok(())
+}
+
+/// Whether loading at most so many bytes of a path gives what is expected.
+fn is_loaded<F: Files>(
+    alloc: Global,
+    files: &mut F,
+    (path, most): (&str, u64),
+    expected: Result<&[u8], LoadErr>,
+) -> bool {
+    is_answer(&files.load(alloc, path, most), expected)
 }
 
 fn is_answer(loaded: &Result<Vec<u8>, LoadErr>, expected: Result<&[u8], LoadErr>) -> bool {
@@ -208,8 +235,10 @@ fn files_of_the_system_are_loaded(rt: HostRuntime) -> Result<(), Fail> {
         ("a\0b", 9, Err(LoadErr::Failed), 3),
     ];
     for (place, most, expected, faults) in cases {
-        let loaded = files.load(alloc, place, most);
-        assert!(rt; is_answer(&loaded, expected), "at {place:?} {most}");
+        assert!(rt;
+            is_loaded(alloc, &mut files, (place, most), expected),
+            "at {place:?} {most}"
+        );
         assert!(rt; files.faults() == faults);
     }
     fs::remove_file(&rt, path.as_str())?;

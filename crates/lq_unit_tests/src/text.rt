@@ -4,7 +4,7 @@ use lq_text::{bracketed_second, is_blank, next_line, read_i64, read_u64, trim};
 
 #[test]
 fn lines_are_cut_at_line_feeds(rt: HostRuntime) {
-    let cases: [(&[u8], usize, Option<(usize, usize)>); 21] = [
+    let cases: &[(&[u8], usize, Option<(usize, usize)>)] = &[
         (b"", 0, None),
         (b"ab", 2, None),
         (b"ab\n", 3, None),
@@ -29,14 +29,14 @@ fn lines_are_cut_at_line_feeds(rt: HostRuntime) {
         (b"\0", 0, Some((1, 1))),
     ];
     for (bytes, at, expected) in cases {
-        assert!(rt; at <= bytes.len());
-        assert!(rt; next_line(bytes, at) == expected, "at {at} of {bytes:?}");
+        assert!(rt; *at <= bytes.len());
+        assert!(rt; next_line(*bytes, *at) == *expected, "at {at} of {bytes:?}");
     }
 }
 
 #[test]
 fn numbers_are_digits_alone(rt: HostRuntime) {
-    let cases: [(&[u8], Option<u64>); 23] = [
+    let cases: &[(&[u8], Option<u64>)] = &[
         (b"", None),
         (b"0", Some(0)),
         (b"7", Some(7)),
@@ -63,7 +63,7 @@ fn numbers_are_digits_alone(rt: HostRuntime) {
         (b"1\02", None),
     ];
     for (bytes, expected) in cases {
-        assert!(rt; read_u64(bytes) == expected, "at {bytes:?}");
+        assert!(rt; read_u64(*bytes) == *expected, "at {bytes:?}");
     }
 
     let mut zeros = [b'0'; 1000];
@@ -76,7 +76,7 @@ fn numbers_are_digits_alone(rt: HostRuntime) {
 
 #[test]
 fn blanks_are_spaces_and_tabs(rt: HostRuntime) {
-    let cases: [(&[u8], &[u8]); 10] = [
+    let cases: &[(&[u8], &[u8])] = &[
         (b"", b""),
         (b"ab", b"ab"),
         (b"  ab", b"ab"),
@@ -89,7 +89,7 @@ fn blanks_are_spaces_and_tabs(rt: HostRuntime) {
         (b"\0 ", b"\0"),
     ];
     for (bytes, expected) in cases {
-        assert!(rt; trim(bytes) == expected, "at {bytes:?}");
+        assert!(rt; trim(*bytes) == *expected, "at {bytes:?}");
     }
 
     let cases = [
@@ -112,7 +112,7 @@ fn blanks_are_spaces_and_tabs(rt: HostRuntime) {
 
 #[test]
 fn integers_and_seconds_are_digits(rt: HostRuntime) {
-    let cases: [(&[u8], Option<i64>); 7] = [
+    let cases: &[(&[u8], Option<i64>)] = &[
         (b"-9223372036854775808", Some(i64::MIN)),
         (b"9223372036854775807", Some(i64::MAX)),
         (b"-0", Some(0)),
@@ -122,10 +122,10 @@ fn integers_and_seconds_are_digits(rt: HostRuntime) {
         (b"+1", None),
     ];
     for (bytes, expected) in cases {
-        assert!(rt; read_i64(bytes) == expected, "at {bytes:?}");
+        assert!(rt; read_i64(*bytes) == *expected, "at {bytes:?}");
     }
 
-    let cases: [(&[u8], Option<(u64, usize)>); 7] = [
+    let cases: &[(&[u8], Option<(u64, usize)>)] = &[
         (b"[100] \tx", Some((100, 7))),
         (b"[999999999999]", Some((999_999_999_999, 14))),
         (b"[1000000000000]", None),
@@ -135,6 +135,6 @@ fn integers_and_seconds_are_digits(rt: HostRuntime) {
         (b"[1", None),
     ];
     for (bytes, expected) in cases {
-        assert!(rt; bracketed_second(bytes) == expected, "at {bytes:?}");
+        assert!(rt; bracketed_second(*bytes) == *expected, "at {bytes:?}");
     }
 }

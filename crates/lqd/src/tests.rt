@@ -75,6 +75,59 @@ fn source(alloc: Global, bytes: &[u8], fail_at: &[u64]) -> Result<MemSource, All
     )
 }
 
+/// What the program is run with: its words, and all that it reads and writes.
+struct Process<I, O> {
+    words: Vec<String>,
+    files: MemFiles,
+    input: I,
+    output: O,
+    faults: O,
+}
+
+// Written by hand: where one is dropped a proof then meets a call, and not each of the fields.
+impl<I: Drop, O: Drop> Drop for Process<I, O> {
+    fn drop(self) {
+        let Process {
+            words: _words,
+            files: _files,
+            input: _input,
+            output: _output,
+            faults: _faults,
+        } = self;
+    }
+}
+
+impl<I: Source, O: Sink> Process<I, O> {
+    /// Runs the program, and gives its status. It stands apart so that its clauses are met once,
+    /// whatever is read and written, and where nothing is dropped.
+    fn run<R: Abort + AllocGlobal>(&mut self, rt: &R) -> u8 {
+        run(
+            rt,
+            rt.alloc(),
+            &self.words,
+            &mut self.files,
+            &mut self.input,
+            &mut self.output,
+            &mut self.faults,
+        )
+    }
+}
+
+fn process_of(
+    alloc: Global,
+    words: &[&str],
+    outside: &Outside<'_>,
+    input: &[u8],
+) -> Result<Process<MemSource, MemSink>, AllocError> {
+    Ok(Process {
+        words: texts(alloc, words)?,
+        files: files(alloc, outside)?,
+        input: source(alloc, input, outside.fail_read)?,
+        output: MemSink::new(alloc, Vec::from_slice(alloc, outside.fail_write)?)?,
+        faults: MemSink::new(alloc, Vec::new(alloc))?,
+    })
+}
+
 /// Runs the program in memory, and compares its status and what both outputs hold.
 fn assert_run<R: Abort + AllocGlobal>(
     rt: &R,
@@ -83,83 +136,72 @@ fn assert_run<R: Abort + AllocGlobal>(
     input: &[u8],
     expected: (u8, &[u8], &[u8]),
 ) -> Result<(), Fail> {
-    let alloc = rt.alloc();
-    let words = texts(alloc, words)?;
-    let mut files = files(alloc, outside)?;
-    let mut input = source(alloc, input, outside.fail_read)?;
-    let mut output = MemSink::new(alloc, Vec::from_slice(alloc, outside.fail_write)?)?;
-    let mut faults = MemSink::new(alloc, Vec::new(alloc))?;
-    let status = run(
-        rt,
-        alloc,
-        &words,
-        &mut files,
-        &mut input,
-        &mut output,
-        &mut faults,
-    );
+    let mut process = process_of(rt.alloc(), words, outside, input)?;
+    let status = process.run(rt);
     assert_eq!(rt; status, expected.0);
-    assert_eq!(rt; output.held(), expected.1);
-    assert_eq!(rt; faults.held(), expected.2);
+    assert_eq!(rt; process.output.held(), expected.1);
+    assert_eq!(rt; process.faults.held(), expected.2);
     Ok(())
 }
 
+/// Queries of the two hosts, and the replies.
+const QUERIES: &[(&[u8], &[u8])] = &[
+    (
+        b"GET hosts\nColumns: name alias address state\n\n",
+        b"web1;Web One;10.0.0.1;0\nweb2;Web Two;10.0.0.2;0\n",
+    ),
+    (
+        b"GET hosts\nColumns: name state\nColumnHeaders: on\n\n",
+        b"name;state\nweb1;0\nweb2;0\n",
+    ),
+    (b"GET hosts\nColumns: name state\n\n", b"web1;0\nweb2;0\n"),
+    (
+        b"\r\n\nGET\thosts\r\nColumns:state\r\nColumns: name",
+        b"0;web1\n0;web2\n",
+    ),
+    (
+        b"GET hosts\nColumns: name\n\nGET hosts\nColumns: alias\n\n",
+        b"web1\nweb2\n",
+    ),
+    (b"GET nothing\nColumns: name\n\n", b""),
+    (b"GET hosts\nColumns: nope\n\n", b""),
+    (b"GET hosts x\n\n", b""),
+    (b"GET hosts\nStats: state = 0\n\n", b"2\n"),
+    (
+        b"GET hosts\nColumns: name\nFilter: name ~ ^web[12]$\nLimit: 1\n\n",
+        b"web1\n",
+    ),
+    (b"GET hosts\nColumns: name \xff\n\n", b""),
+    (b"GET\n\n", b""),
+    (b"FOO\n", b""),
+    (b"", b""),
+    (
+        b"GET hosts\nColumns: name state\nLimit: 1\nResponseHeader: fixed16\n\n",
+        b"200           7\nweb1;0\n",
+    ),
+    (
+        b"GET nothing\nResponseHeader: fixed16\n\n",
+        b"404          23\nunknown table: nothing\n",
+    ),
+    (
+        b"GET\nResponseHeader: fixed16\n\n",
+        b"451          19\nmissing table name\n",
+    ),
+    (
+        b"FOO\nResponseHeader: fixed16\n\n",
+        b"452          16\ninvalid request\n",
+    ),
+    (
+        b"GET hosts\nColumns: name nope\nKeepAlive: on\nResponseHeader: fixed16\n\n\
+          GET hosts\nColumns: name\nLimit: 1\n\n",
+        b"450          21\nunknown column: nope\nweb1\n",
+    ),
+];
+
 #[test]
 fn answers_a_query_on_hosts(rt: HostRuntime) -> Result<(), Fail> {
-    let cases: [(&[u8], &[u8]); 19] = [
-        (
-            b"GET hosts\nColumns: name alias address state\n\n",
-            b"web1;Web One;10.0.0.1;0\nweb2;Web Two;10.0.0.2;0\n",
-        ),
-        (
-            b"GET hosts\nColumns: name state\nColumnHeaders: on\n\n",
-            b"name;state\nweb1;0\nweb2;0\n",
-        ),
-        (b"GET hosts\nColumns: name state\n\n", b"web1;0\nweb2;0\n"),
-        (
-            b"\r\n\nGET\thosts\r\nColumns:state\r\nColumns: name",
-            b"0;web1\n0;web2\n",
-        ),
-        (
-            b"GET hosts\nColumns: name\n\nGET hosts\nColumns: alias\n\n",
-            b"web1\nweb2\n",
-        ),
-        (b"GET nothing\nColumns: name\n\n", b""),
-        (b"GET hosts\nColumns: nope\n\n", b""),
-        (b"GET hosts x\n\n", b""),
-        (b"GET hosts\nStats: state = 0\n\n", b"2\n"),
-        (
-            b"GET hosts\nColumns: name\nFilter: name ~ ^web[12]$\nLimit: 1\n\n",
-            b"web1\n",
-        ),
-        (b"GET hosts\nColumns: name \xff\n\n", b""),
-        (b"GET\n\n", b""),
-        (b"FOO\n", b""),
-        (b"", b""),
-        (
-            b"GET hosts\nColumns: name state\nLimit: 1\nResponseHeader: fixed16\n\n",
-            b"200           7\nweb1;0\n",
-        ),
-        (
-            b"GET nothing\nResponseHeader: fixed16\n\n",
-            b"404          23\nunknown table: nothing\n",
-        ),
-        (
-            b"GET\nResponseHeader: fixed16\n\n",
-            b"451          19\nmissing table name\n",
-        ),
-        (
-            b"FOO\nResponseHeader: fixed16\n\n",
-            b"452          16\ninvalid request\n",
-        ),
-        (
-            b"GET hosts\nColumns: name nope\nKeepAlive: on\nResponseHeader: fixed16\n\n\
-              GET hosts\nColumns: name\nLimit: 1\n\n",
-            b"450          21\nunknown column: nope\nweb1\n",
-        ),
-    ];
-    for (input, output) in cases {
-        assert_run(&rt, &["ask", "f"], &STEADY, input, (0, output, b""))?;
+    for (input, output) in QUERIES {
+        assert_run(&rt, &["ask", "f"], &STEADY, *input, (0, *output, b""))?;
     }
     Ok(())
 }
@@ -381,20 +423,18 @@ const ROWS: &[u8] = b"web1;0\nweb2;0\n";
 
 #[test]
 fn words_decide_what_is_done(rt: HostRuntime) -> Result<(), Fail> {
-    let usage = b"usage: lqd ask|replay|serve|load\n".as_slice();
-    let missing = b"file: nowhere: missing\n".as_slice();
-    let cases: [(&[&str], (u8, &[u8], &[u8])); 8] = [
+    let cases: &[(&[&str], (u8, &[u8], &[u8]))] = &[
         (&["ask", "f"], (0, ROWS, b"")),
         (&["ask", "--", "f"], (0, ROWS, b"")),
         (&["ask", "f", "--"], (0, ROWS, b"")),
-        (&["ask", "nowhere"], (4, b"", missing)),
-        (&["ask"], (1, b"", usage)),
-        (&["ask", "-f"], (1, b"", usage)),
-        (&["ask", "f", "f"], (1, b"", usage)),
-        (&["serve", "f"], (1, b"", usage)),
+        (&["ask", "nowhere"], (4, b"", b"file: nowhere: missing\n")),
+        (&["ask"], (1, b"", USAGE)),
+        (&["ask", "-f"], (1, b"", USAGE)),
+        (&["ask", "f", "f"], (1, b"", USAGE)),
+        (&["serve", "f"], (1, b"", USAGE)),
     ];
     for (words, expected) in cases {
-        assert_run(&rt, words, &STEADY, QUERY, expected)?;
+        assert_run(&rt, *words, &STEADY, QUERY, *expected)?;
     }
     Ok(())
 }
@@ -406,28 +446,29 @@ const LOAD_1_000_000: &[u8] =
 const LOAD_7: &[u8] =
     b"hosts 100 services 1000 lines 2000 commands 50 queries 20 bytes 2999 sum 184313\n";
 
+/// Words that ask for a load, with the status and the two outputs.
+const LOADS: &[(&[&str], (u8, &[u8], &[u8]))] = &[
+    (&["load", "7"], (0, LOAD_7, b"")),
+    (&["load", "7"], (0, LOAD_7, b"")),
+    (&["load", "--", "0007"], (0, LOAD_7, b"")),
+    (&["load", "1000000"], (0, LOAD_1_000_000, b"")),
+    (&["load"], (1, b"", USAGE)),
+    (&["load", ""], (1, b"", USAGE)),
+    (&["load", "x"], (1, b"", USAGE)),
+    (&["load", "+7"], (1, b"", USAGE)),
+    (&["load", "7 "], (1, b"", USAGE)),
+    (&["load", "7", "7"], (1, b"", USAGE)),
+    (&["load", "--", "-7"], (1, b"", USAGE)),
+    (&["load", "1000001"], (1, b"", USAGE)),
+    (&["load", "18446744073709551623"], (1, b"", USAGE)),
+    (&["load", "7", "--log=l"], (1, b"", USAGE)),
+    (&["load", "--service-auth=loose", "7"], (1, b"", USAGE)),
+];
+
 #[test]
 fn a_load_is_told_in_one_line(rt: HostRuntime) -> Result<(), Fail> {
-    let usage = b"usage: lqd ask|replay|serve|load\n".as_slice();
-    let cases: [(&[&str], (u8, &[u8], &[u8])); 15] = [
-        (&["load", "7"], (0, LOAD_7, b"")),
-        (&["load", "7"], (0, LOAD_7, b"")),
-        (&["load", "--", "0007"], (0, LOAD_7, b"")),
-        (&["load", "1000000"], (0, LOAD_1_000_000, b"")),
-        (&["load"], (1, b"", usage)),
-        (&["load", ""], (1, b"", usage)),
-        (&["load", "x"], (1, b"", usage)),
-        (&["load", "+7"], (1, b"", usage)),
-        (&["load", "7 "], (1, b"", usage)),
-        (&["load", "7", "7"], (1, b"", usage)),
-        (&["load", "--", "-7"], (1, b"", usage)),
-        (&["load", "1000001"], (1, b"", usage)),
-        (&["load", "18446744073709551623"], (1, b"", usage)),
-        (&["load", "7", "--log=l"], (1, b"", usage)),
-        (&["load", "--service-auth=loose", "7"], (1, b"", usage)),
-    ];
-    for (words, expected) in cases {
-        assert_run(&rt, words, &STEADY, QUERY, expected)?;
+    for (words, expected) in LOADS {
+        assert_run(&rt, *words, &STEADY, QUERY, *expected)?;
     }
     let full = Outside {
         fail_write: &[0],
@@ -536,7 +577,7 @@ const KEPT: &[u8] = b"GET hosts\nColumns: name state\nKeepAlive: on\n\n";
 
 #[test]
 fn commands_change_what_is_answered(rt: HostRuntime) -> Result<(), Fail> {
-    let cases: [(&[u8], &[u8]); 7] = [
+    let cases: &[(&[u8], &[u8])] = &[
         (
             b"GET hosts\nColumns: name state\nKeepAlive: on\n\n\
 COMMAND [100] PROCESS_HOST_CHECK_RESULT;web2;1;down\n\nGET hosts\nColumns: name state\n\n",
@@ -569,14 +610,14 @@ COMMAND [300] ENABLE_NOTIFICATIONS\nCOMMAND [301] DEL_HOST_DOWNTIME;1\nGET hosts
         (b"COMMAND [100] PROCESS_HOST_CHECK_RESULT;web2;1;down", b""),
     ];
     for (input, output) in cases {
-        assert_run(&rt, &["ask", "f"], &STEADY, input, (0, output, b""))?;
+        assert_run(&rt, &["ask", "f"], &STEADY, *input, (0, *output, b""))?;
     }
     Ok(())
 }
 
 #[test]
 fn a_query_ends_a_connection_that_it_does_not_keep(rt: HostRuntime) -> Result<(), Fail> {
-    let cases: [(&[u8], &[u8]); 5] = [
+    let cases: &[(&[u8], &[u8])] = &[
         (
             b"GET hosts\nColumns: name\nKeepAlive: off\n\nGET hosts\nColumns: alias\n\n",
             b"web1\nweb2\n",
@@ -599,7 +640,7 @@ fn a_query_ends_a_connection_that_it_does_not_keep(rt: HostRuntime) -> Result<()
         ),
     ];
     for (input, output) in cases {
-        assert_run(&rt, &["ask", "f"], &STEADY, input, (0, output, b""))?;
+        assert_run(&rt, &["ask", "f"], &STEADY, *input, (0, *output, b""))?;
     }
     Ok(())
 }
@@ -612,7 +653,7 @@ fn assert_refused<R: Abort + AllocGlobal>(rt: &R, file: &[u8], text: &[u8]) -> R
 
 #[test]
 fn a_line_at_fault_is_told(rt: HostRuntime) -> Result<(), Fail> {
-    let cases: [(&[u8], &[u8]); 7] = [
+    let cases: &[(&[u8], &[u8])] = &[
         (b"\nhost_name a\n", b"objects: line 2: stray line\n"),
         (
             b"define host {\nhost_name a\n}\n}\n",
@@ -640,14 +681,14 @@ fn a_line_at_fault_is_told(rt: HostRuntime) -> Result<(), Fail> {
         ),
     ];
     for (file, text) in cases {
-        assert_refused(&rt, file, text)?;
+        assert_refused(&rt, *file, *text)?;
     }
     Ok(())
 }
 
 #[test]
 fn a_name_at_fault_is_told(rt: HostRuntime) -> Result<(), Fail> {
-    let cases: [(&[u8], &[u8]); 6] = [
+    let cases: &[(&[u8], &[u8])] = &[
         (b"define host {\nalias a\n}", b"objects: line 3: no name\n"),
         (
             b"define host {\nhost_name a;b\n}",
@@ -672,7 +713,7 @@ define servicegroup {\nservicegroup_name c\nmembers a,b,a\n}",
         ),
     ];
     for (file, text) in cases {
-        assert_refused(&rt, file, text)?;
+        assert_refused(&rt, *file, *text)?;
     }
     Ok(())
 }
@@ -797,6 +838,22 @@ fn narrow_sink(alloc: Global) -> Result<Narrow, AllocError> {
     })
 }
 
+fn process_in_pieces(
+    alloc: Global,
+    file: &[u8],
+    bytes: &[u8],
+) -> Result<Process<OneByte, Narrow>, AllocError> {
+    Ok(Process {
+        words: texts(alloc, &["ask", "f"])?,
+        files: files(alloc, &Outside { file, ..STEADY })?,
+        input: OneByte {
+            inner: source(alloc, bytes, &[])?,
+        },
+        output: narrow_sink(alloc)?,
+        faults: narrow_sink(alloc)?,
+    })
+}
+
 /// Runs the program on a file, with one byte a read and three a write at most.
 fn assert_pieces<R: Abort + AllocGlobal>(
     rt: &R,
@@ -804,26 +861,11 @@ fn assert_pieces<R: Abort + AllocGlobal>(
     bytes: &[u8],
     expected: &[u8],
 ) -> Result<(), Fail> {
-    let alloc = rt.alloc();
-    let words = texts(alloc, &["ask", "f"])?;
-    let mut files = files(alloc, &Outside { file, ..STEADY })?;
-    let mut input = OneByte {
-        inner: source(alloc, bytes, &[])?,
-    };
-    let mut output = narrow_sink(alloc)?;
-    let mut faults = narrow_sink(alloc)?;
-    let status = run(
-        rt,
-        alloc,
-        &words,
-        &mut files,
-        &mut input,
-        &mut output,
-        &mut faults,
-    );
+    let mut process = process_in_pieces(rt.alloc(), file, bytes)?;
+    let status = process.run(rt);
     assert_eq!(rt; status, 0);
-    assert_eq!(rt; output.inner.held(), expected);
-    assert_eq!(rt; faults.inner.held(), b"".as_slice());
+    assert_eq!(rt; process.output.inner.held(), expected);
+    assert_eq!(rt; process.faults.inner.held(), b"".as_slice());
     Ok(())
 }
 
@@ -1124,42 +1166,48 @@ fn roomy_sink(alloc: Global) -> Result<Roomy, AllocError> {
     })
 }
 
-/// Runs the program on a query whose reply finds memory, and on messages that find none.
-fn assert_scarce<R: Abort + AllocGlobal>(
-    rt: &R,
-    messages: &[u8],
-    refused: &[u8],
-) -> Result<(), Fail> {
-    let alloc = rt.alloc();
-    let words = texts(alloc, &["ask", "f"])?;
-    let mut files = files(alloc, &STEADY)?;
+/// A source of `KEPT` and then messages, which takes all memory between the two.
+fn greedy_source(alloc: Global, messages: &[u8]) -> Result<Greedy, AllocError> {
     let mut bytes = Vec::from_slice(alloc, KEPT)?;
     bytes.extend_from_slice(messages)?;
-    let mut input = Greedy {
+    Ok(Greedy {
         inner: source(alloc, &bytes, &[])?,
         alloc,
         first: KEPT.len(),
         blocks: Vec::with_capacity(alloc, MOST_BLOCKS)?,
-    };
-    let mut replies = Vec::from_slice(alloc, ROWS)?;
-    replies.extend_from_slice(refused)?;
-    let mut output = roomy_sink(alloc)?;
-    let mut faults = roomy_sink(alloc)?;
-    let status = run(
-        rt,
-        alloc,
-        &words,
-        &mut files,
-        &mut input,
-        &mut output,
-        &mut faults,
-    );
-    drop(input);
+    })
+}
+
+fn greedy_process(alloc: Global, messages: &[u8]) -> Result<Process<Greedy, Roomy>, AllocError> {
+    Ok(Process {
+        words: texts(alloc, &["ask", "f"])?,
+        files: files(alloc, &STEADY)?,
+        input: greedy_source(alloc, messages)?,
+        output: roomy_sink(alloc)?,
+        faults: roomy_sink(alloc)?,
+    })
+}
+
+/// Runs the program on a query whose reply finds memory, and on messages that find none.
+fn assert_scarce<R: Abort + AllocGlobal>(
+    rt: &R,
+    messages: &[u8],
+    replies: &[u8],
+) -> Result<(), Fail> {
+    let mut process = greedy_process(rt.alloc(), messages)?;
+    let status = process.run(rt);
+    process.input.blocks.clear();
     assert_eq!(rt; status, 7);
-    assert_eq!(rt; output.bytes.as_slice(), replies.as_slice());
-    assert_eq!(rt; faults.bytes.as_slice(), b"out of memory\n".as_slice());
+    assert_eq!(rt; process.output.bytes.as_slice(), replies);
+    assert_eq!(rt;
+        process.faults.bytes.as_slice(),
+        b"out of memory\n".as_slice()
+    );
     Ok(())
 }
+
+/// The reply to `KEPT`, and that to a query with codes which finds no memory.
+const REFUSED: &[u8] = b"web1;0\nweb2;0\n500          14\nout of memory\n";
 
 #[test]
 fn a_message_without_memory_is_refused_in_its_style(rt: HostRuntime) -> Result<(), Fail> {
@@ -1169,22 +1217,21 @@ fn a_message_without_memory_is_refused_in_its_style(rt: HostRuntime) -> Result<(
     }
     let front = b"GET hosts\nResponseHeader: fixed16\nColumns: name";
     let too_long = padded(alloc, front, b' ', 65_536, b"\n\n")?;
-    let refused = b"500          14\nout of memory\n".as_slice();
     let cases: [(&[u8], &[u8]); 5] = [
         (
             b"GET hosts\nResponseHeader: fixed16\nKeepAlive: on\n\nGET hosts\n\n",
-            refused,
+            REFUSED,
         ),
-        (b"GET hosts\nKeepAlive: on\n\nGET hosts\n\n", b""),
-        (b"GET nothing\nResponseHeader: fixed16\n\n", refused),
+        (b"GET hosts\nKeepAlive: on\n\nGET hosts\n\n", ROWS),
+        (b"GET nothing\nResponseHeader: fixed16\n\n", REFUSED),
         (
             b"COMMAND [1] ADD_HOST_COMMENT;web1;1;anna;say it\n\nGET hosts\n\n",
-            b"",
+            ROWS,
         ),
-        (&too_long, refused),
+        (&too_long, REFUSED),
     ];
-    for (messages, expected) in cases {
-        assert_scarce(&rt, messages, expected)?;
+    for (messages, replies) in cases {
+        assert_scarce(&rt, messages, replies)?;
     }
     Ok(())
 }
