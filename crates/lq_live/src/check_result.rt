@@ -168,7 +168,7 @@ impl<'a> StepContext<'a> {
             (attempt_of check.entry.attempt) check.entry.state check.entry.output.now) }
     {
         let form = Form::Alert {
-            host: Text::new(self.alloc, check.name.host)?,
+            host: check.name.host.clone()?,
             service: Text::new(self.alloc, check.name.service)?,
             state: check.state,
             hard: check.attempt.hard,

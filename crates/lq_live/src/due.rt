@@ -91,7 +91,7 @@ fn downtime_line(
         (line_names name.entry.host.now name.entry.service.now)) }
 {
     let form = Form::Downtime {
-        host: Text::new(alloc, name.host)?,
+        host: name.host.clone()?,
         service: Text::new(alloc, name.service)?,
         change: change.change,
     };

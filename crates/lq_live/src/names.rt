@@ -4,12 +4,12 @@ ghost use Rattle.std.specs.Option.{option_copied, option_map};
 ghost use Rattle.lq_live.specs.Effects.{holds};
 ghost use Rattle.lq_live.specs.State.{line_names, host_in_line, names_of};
 
-use lq_records::{Base, Object, Service};
+use lq_records::{Base, Object, Service, Text};
 
 /// How a line names an object: its host, and its description where it is a service.
 #[derive(Clone, Copy)]
 pub(crate) struct ObjectName<'a> {
-    pub(crate) host: &'a str,
+    pub(crate) host: &'a Text,
     pub(crate) service: &'a str,
 }
 
@@ -45,7 +45,7 @@ fn host_names<'a>(base: &'a Base, place: usize, description: &'a str) -> Option<
 {
     let host = base.hosts.as_slice().get(place)?;
     Some(ObjectName {
-        host: host.host_name.as_str(),
+        host: &host.host_name,
         service: description,
     })
 }

@@ -12,7 +12,7 @@ use crate::edit::Edit;
 use crate::live_state::LiveState;
 use lq_events::{LogEntry, Update};
 use lq_log::{Form, TIME_LIMIT, make_line};
-use lq_records::{Memory, Text};
+use lq_records::Memory;
 use std::alloc::Global;
 
 /// The edits of the step that an update makes: playing them takes the step.
@@ -75,7 +75,7 @@ impl<'a> StepContext<'a> {
             ≡ written self.entry.second (form.External update.now.text)) }
     {
         let form = Form::External {
-            text: Text::new(self.alloc, update.text.as_str())?,
+            text: update.text.clone()?,
         };
         make_line(self.alloc, self.second, &form)
     }

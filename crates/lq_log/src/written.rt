@@ -7,6 +7,7 @@ ghost use Rattle.lq_log.specs.Written.{alert_name, downtime_fields, downtime_nam
 use crate::read::said;
 use crate::texts::Texts;
 use crate::words::{host_state_name, service_state_name};
+use itoa::Buffer;
 use lq_events::LogEntry;
 use lq_records::{Memory, Text};
 use std::alloc::Global;
@@ -17,6 +18,9 @@ const STAMP_BYTES: usize = 23;
 
 /// Room for what stands before an external command.
 const EXTERNAL_BYTES: usize = 18;
+
+/// Room for what stands before the output of an alert, where names are no longer than most are.
+const ALERT_BYTES: usize = 128;
 
 /// What happens to a downtime.
 #[derive(Clone, Copy)]
@@ -87,7 +91,7 @@ fn stamped(alloc: Global, time: u64, text: &str) -> Result<Text, Memory>
 {
     let mut line = String::with_capacity(alloc, text.len() + STAMP_BYTES)?;
     line.push_str("[")?;
-    line.push_str(time.to_string(alloc)?.as_str())?;
+    push_digits(&mut line, time)?;
     line.push_str("] ")?;
     line.push_str(text)?;
     Text::from_string(line)
@@ -108,9 +112,10 @@ fn form_text(alloc: Global, form: &Form) -> Result<String, Memory>
             attempt,
             output,
         } => {
-            let mut text = alert_start(alloc, host.as_str(), service.as_str(), *state)?;
-            let attempt = attempt.to_string(alloc)?;
-            push_result(&mut text, *hard, attempt.as_str(), output.as_str())?;
+            let output = output.as_str();
+            let mut text = String::with_capacity(alloc, output.len() + ALERT_BYTES)?;
+            push_alert_start(&mut text, host.as_str(), service.as_str(), *state)?;
+            push_result(&mut text, *hard, *attempt, output)?;
             Ok(text)
         }
         Form::Downtime {
@@ -130,29 +135,37 @@ fn external_text(alloc: Global, command: &str) -> Result<String, Memory>
     Ok(text)
 }
 
-/// The text of an alert up to its state.
-fn alert_start(alloc: Global, host: &str, service: &str, state: i64) -> Result<String, Memory>
-    ensures { IfOk result
-        (λ text. string_bytes text
-        ≡ alert_name service.now ++ object_text host.now service.now
+/// Appends an alert up to its state.
+fn push_alert_start(text: &mut String, host: &str, service: &str, state: i64) -> Result<(), Memory>
+    ensures { OnOk result
+        (string_bytes text.new
+        ≡ string_bytes text.old ++ alert_name service.now ++ object_text host.now service.now
         ++ next_field (state_word service.now state)) }
 {
-    let mut text = String::from_str(alloc, alert_name(service))?;
-    push_object(&mut text, host, service)?;
-    push_field(&mut text, state_word(service, state))?;
-    Ok(text)
+    text.push_str(alert_name(service))?;
+    push_object(text, host, service)?;
+    push_field(text, state_word(service, state))
 }
 
 /// Appends the fields of an alert that follow its state.
-fn push_result(text: &mut String, hard: bool, attempt: &str, output: &str) -> Result<(), Memory>
+fn push_result(text: &mut String, hard: bool, attempt: u32, output: &str) -> Result<(), Memory>
     ensures { OnOk result
         (string_bytes text.new
-        ≡ string_bytes text.old ++ next_field (type_word hard) ++ next_field attempt.now
+        ≡ string_bytes text.old ++ next_field (type_word hard) ++ next_field (decimal attempt)
         ++ next_field output.now) }
 {
     push_field(text, if hard { "HARD" } else { "SOFT" })?;
-    push_field(text, attempt)?;
+    let mut digits = Buffer::new();
+    push_field(text, digits.format(attempt))?;
     push_field(text, output)
+}
+
+/// Appends the digits of a number.
+fn push_digits(text: &mut String, number: u64) -> Result<(), Memory>
+    ensures { OnOk result (string_bytes text.new ≡ string_bytes text.old ++ decimal number) }
+{
+    let mut digits = Buffer::new();
+    text.push_str(digits.format(number))
 }
 
 fn downtime_text(

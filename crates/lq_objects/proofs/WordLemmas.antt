@@ -1,8 +1,8 @@
 -- A line is the directive with a name where the word at its front is as long as the name, and the name stands there.
-use Rattle.std.proofs.Common.{◌≡◌, ◌≢◌, ℕ, ◌+◌, Bool, true, false, not, ◌&&◌, ◌||◌, cond, List, [], ◌∷◌, length, suc, refl, sym, ap, ◌∙◌, arith, one-add, ⊎_elim}
+use Rattle.std.proofs.Common.{◌≡◌, ℕ, ◌+◌, ◌≤◌, Bool, true, false, not, ◌&&◌, ◌||◌, cond, List, [], ◌∷◌, length, suc, refl, sym, ap, ◌∙◌, arith, one-add, ⊎_elim}
 use Rattle.std.specs.Prelude.{◌==◌, nat_eq, slice_index}
 use Rattle.std.specs.List.{list_any, starts_with}
-use Rattle.std.proofs.lemmas.Bool.{cases_Bool, eq-eqb, eqb-false, eqb-true, ne_eqb, not-true, or_parts}
+use Rattle.std.proofs.lemmas.Bool.{and_parts, cases_Bool, eq-eqb, eqb-false, eqb-true, ne_eqb, not-true, or_parts}
 use Rattle.lq_text.specs.Blanks.{is_blank}
 use Rattle.lq_objects.specs.Blocks.{is_named}
 use Rattle.lq_objects.specs.Words.{is_word, word_length}
@@ -55,15 +55,22 @@ pub is_named-by_word : (name text : List ℕ) → is_word name ≡ true
     → ((word_length text == length name) && starts_with nat_eq text name) ≡ is_named name text
 is_named-by_word name text word = named name text (not-true (list_any is_blank name) word)
 
--- a word of another length
-pub is_named-other : (name text : List ℕ) (word : ℕ) → is_word name ≡ true → word ≡ word_length text → word ≢ length name → false ≡ is_named name text
-is_named-other name text word plain is other =
-    ap (λ long. long && starts_with nat_eq text name) (sym (ne_eqb (word_length text) (length name) (λ same. other (is ∙ same))))
-    ∙ is_named-by_word name text plain
+-- a text that begins with a name is no shorter
+no_shorter : (name text : List ℕ) → starts_with nat_eq text name ≡ true → length name ≤ length text
+no_shorter [] text begins = omega arith
+no_shorter (n ∷ name) [] begins = absurd (cc)
+no_shorter (n ∷ name) (b ∷ text) begins =
+    let both = and_parts (nat_eq n b) (starts_with nat_eq text name) begins in
+    omega (arith, no_shorter name text both.1)
 
--- a word of the same length
-pub is_named-alike : (name text : List ℕ) (word : ℕ) → is_word name ≡ true → word ≡ word_length text → word ≡ length name
-    → starts_with nat_eq text name ≡ is_named name text
-is_named-alike name text word plain is long =
-    ap (λ same. same && starts_with nat_eq text name) (sym (eq-eqb (word_length text) (length name) (sym is ∙ long)))
-    ∙ is_named-by_word name text plain
+either_first : (first last begins : Bool) → (begins ≡ true → first ≡ last) → (first && begins) ≡ (begins && last)
+either_first first last true same = and-true first ∙ same refl
+either_first first last false same = and-false first
+
+-- what follows a name may be looked at first
+pub is_named-by_end : (name text : List ℕ) (ends : Bool)
+    → (length name ≤ length text → ends ≡ ((length text == length name) || is_blank (slice_index text (length name))))
+    → (ends && starts_with nat_eq text name) ≡ is_named name text
+is_named-by_end name text ends same =
+    either_first ends ((length text == length name) || is_blank (slice_index text (length name)))
+    (starts_with nat_eq text name) (λ begins. same (no_shorter name text begins))

@@ -1,8 +1,7 @@
-ghost use Rattle.std.specs.Prelude.{◌≡◌, IsTrue};
+ghost use Rattle.std.specs.Prelude.{◌≡◌};
 ghost use Rattle.std.specs.List.{starts_with};
 ghost use Rattle.std.specs.Option.{option_copied};
 ghost use Rattle.lq_objects.specs.Blocks.{directive, value_of};
-ghost use Rattle.lq_objects.specs.Words.{is_word};
 ghost use Rattle.lq_objects.specs.Faults.{is_bad, is_bad_number, is_template, number_in};
 ghost use Rattle.lq_objects.specs.Objects.{is_variable};
 
@@ -22,7 +21,6 @@ pub(crate) fn value_of<'a>(name: &[u8], text: &'a [u8]) -> &'a [u8]
 
 /// The value of the directive with a name. Of several the last decides.
 pub(crate) fn directive<'a>(name: &[u8], lines: &[Line<'a>]) -> Option<&'a [u8]>
-    requires { IsTrue (is_word name.now) }
     ensures { option_copied result ≡ directive name.now lines.now }
 {
     lines
@@ -46,7 +44,6 @@ pub(crate) fn number_in(least: u32, most: u32, value: &[u8]) -> Option<u32>
 
 /// Whether a line is a directive with a number that isn't in its range.
 fn is_bad(least: u32, most: u32, name: &[u8], line: &Line<'_>) -> bool
-    requires { IsTrue (is_word name.now) }
     ensures { result ≡ is_bad least most name.now line.now.text }
 {
     line.is_named(name) && number_in(least, most, value_of(name, line.text())).is_none()

@@ -1,6 +1,5 @@
-ghost use Rattle.std.specs.Prelude.{◌≡◌, IfSome, IsTrue};
+ghost use Rattle.std.specs.Prelude.{◌≡◌};
 ghost use Rattle.std.specs.Option.{option_copied};
-ghost use Rattle.lq_objects.specs.Words.{is_word};
 ghost use Rattle.lq_objects.specs.Faults.{has_numbers};
 ghost use Rattle.lq_objects.specs.Kinds.{kind_named, limit, name_directive, reference_directive, references, second_directive, target};
 
@@ -80,8 +79,7 @@ impl Kind {
 
     /// The directive with an object's name.
     pub(crate) fn name_directive(self) -> &'static [u8]
-        ensures value { result.now ≡ name_directive self }
-        ensures word { IsTrue (is_word result.now) }
+        ensures { result.now ≡ name_directive self }
     {
         match self {
             Kind::Host | Kind::Service => b"host_name".as_slice(),
@@ -96,8 +94,7 @@ impl Kind {
 
     /// The directive with the second part of an object's name, where it has one.
     pub(crate) fn second_directive(self) -> Option<&'static [u8]>
-        ensures value { option_copied result ≡ second_directive self }
-        ensures word { IfSome result (λ name. IsTrue (is_word name.now)) }
+        ensures { option_copied result ≡ second_directive self }
     {
         match self {
             Kind::Service => Some(b"service_description".as_slice()),
@@ -168,8 +165,7 @@ pub(crate) enum Reference {
 impl Reference {
     /// The directive's name.
     pub(crate) fn directive(self) -> &'static [u8]
-        ensures value { result.now ≡ reference_directive self }
-        ensures word { IsTrue (is_word result.now) }
+        ensures { result.now ≡ reference_directive self }
     {
         match self {
             Reference::Parents => b"parents".as_slice(),

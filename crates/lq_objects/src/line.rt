@@ -1,10 +1,10 @@
-ghost use Rattle.std.specs.Prelude.{◌≡◌, ℕ, IsTrue, ◌<◌, ◌≤◌, ◌&&◌, IfOk, length};
+ghost use Rattle.std.specs.Prelude.{◌≡◌, ℕ, IsTrue, ◌<◌, ◌≤◌, ◌==◌, ◌||◌, ◌&&◌, IfOk, length, slice_index};
 ghost use Rattle.std.specs.List.{list_any};
 ghost use Rattle.std.specs.Option.{option_copied};
 ghost use Rattle.lq_text.specs.Blanks.{is_blank};
 ghost use Rattle.lq_objects.specs.Blocks.{is_closing, is_named, is_opening_text, is_telling};
 ghost use Rattle.lq_objects.specs.Blocks.{one_word, opened_word, parts_of};
-ghost use Rattle.lq_objects.specs.Words.{is_word, word_length};
+ghost use Rattle.lq_objects.specs.Words.{word_length};
 ghost use Rattle.lq_objects.specs.Needed.{is_bound, is_known, is_needed};
 ghost use Rattle.lq_objects.specs.Objects.{base_of, base_of_parts, variable_name};
 ghost use Rattle.lq_records.specs.declared.base.Rules.{Rules};
@@ -25,32 +25,22 @@ const BYTES_A_LINE: usize = 48;
 #[derive(Drop)]
 pub(crate) struct Line<'a> {
     number: u64,
-    /// How many bytes the word at the front has: the name of the directive that the line is.
-    word: usize,
     text: &'a [u8],
 }
 
 impl<'a> Model for Line<'a> {
-    ghost use Rattle.std.specs.Prelude.{◌≡◌};
     ghost use Rattle.lq_objects.specs.Blocks.{Line};
-    ghost use Rattle.lq_objects.specs.Words.{word_length};
 
     ghost Value = { Line };
 
     ghost view = { λ line. record { number = line.number; text = line.text.now } };
-
-    ghost invariant = { λ line. line.word ≡ word_length line.text.now };
 }
 
 impl<'a> Line<'a> {
     pub(crate) fn new(number: u64, text: &'a [u8]) -> Self
         ensures { result ≡ record { number = number; text = text.now } }
     {
-        Line {
-            number,
-            word: word_length(text),
-            text,
-        }
+        Line { number, text }
     }
 
     pub(crate) fn number(&self) -> u64
@@ -75,19 +65,19 @@ impl<'a> Line<'a> {
         }
     }
 
-    /// Whether the line is the directive with a name.
+    /// Whether the line is the directive with a name. What follows the name is looked at first,
+    /// since it alone tells it for most lines.
     pub(crate) fn is_named(&self, name: &[u8]) -> bool
-        requires { IsTrue (is_word name.now) }
         ensures { result ≡ is_named name.now self.now.text }
     {
-        self.word == name.len() && self.text.starts_with(name)
+        has_end_at(self.text, name.len()) && self.text.starts_with(name)
     }
 
     /// The word at the front.
     pub(crate) fn word(&self) -> &'a [u8]
         ensures { result.now ≡ variable_name self.now.text }
     {
-        &self.text[..self.word]
+        &self.text[..word_length(self.text)]
     }
 
     /// Whether the line is needed where it stands in a block.
@@ -101,7 +91,7 @@ impl<'a> Line<'a> {
     fn is_known(&self) -> bool
         ensures { result ≡ is_known self.now.text }
     {
-        is_known(self.word, self.text)
+        is_known(word_length(self.text), self.text)
     }
 
     /// Whether the line opens or closes a block.
@@ -151,6 +141,17 @@ pub(crate) fn needed_lines(alloc: Global, b: &[u8]) -> Result<Vec<Line<'_>>, All
         at = next;
     }
     Ok(lines)
+}
+
+/// Whether a word of so many bytes may stand at the front: a blank follows it, or nothing does.
+fn has_end_at(text: &[u8], at: usize) -> bool
+    ensures { at ≤ length text.now
+        → result ≡ ((length text.now == at) || is_blank (slice_index text.now at)) }
+{
+    match text.get(at) {
+        Some(byte) => is_blank(*byte),
+        None => at == text.len(),
+    }
 }
 
 /// How many bytes the word at the front has.

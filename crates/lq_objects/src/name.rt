@@ -1,5 +1,4 @@
-ghost use Rattle.std.specs.Prelude.{◌≡◌, [], IfOk, IsTrue};
-ghost use Rattle.lq_objects.specs.Words.{is_word};
+ghost use Rattle.std.specs.Prelude.{◌≡◌, [], IfOk};
 ghost use Rattle.lq_objects.specs.Names.{name_of, text_or};
 
 use crate::directive::directive;
@@ -17,7 +16,6 @@ pub(crate) fn text_or(
     name: &[u8],
     lines: &[Line<'_>],
 ) -> Result<Text, AllocError>
-    requires { IsTrue (is_word name.now) }
     ensures { IfOk result (λ text. text ≡ text_or absent.now name.now lines.now) }
 {
     match directive(name, lines) {
@@ -28,7 +26,6 @@ pub(crate) fn text_or(
 
 /// The text of a directive, empty where it is absent.
 pub(crate) fn text_of(texts: &Texts, name: &[u8], lines: &[Line<'_>]) -> Result<Text, AllocError>
-    requires { IsTrue (is_word name.now) }
     ensures { IfOk result (λ text. text ≡ text_or [] name.now lines.now) }
 {
     match directive(name, lines) {

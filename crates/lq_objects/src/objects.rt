@@ -1,6 +1,5 @@
-ghost use Rattle.std.specs.Prelude.{◌≡◌, ◌≤◌, List, [], IfOk, IsTrue, OnOk, map};
+ghost use Rattle.std.specs.Prelude.{◌≡◌, ◌≤◌, List, [], IfOk, OnOk, map};
 ghost use Rattle.lq_names.specs.Names.{Name};
-ghost use Rattle.lq_objects.specs.Words.{is_word};
 ghost use Rattle.lq_objects.specs.Directories.{directory_of, known};
 ghost use Rattle.lq_objects.specs.Drafts.{drafted, numbers_of, with_lists, with_texts};
 ghost use Rattle.lq_objects.specs.Names.{text_or};
@@ -250,7 +249,6 @@ impl<'r, 'a> Reader<'r, 'a> {
 
     /// The text of a directive, empty where it is absent.
     fn text(&self, name: &[u8]) -> Result<Text, AllocError>
-        requires { IsTrue (is_word name.now) }
         ensures { IfOk result (λ text. text ≡ text_or [] name.now self.now.lines.now) }
     {
         text_of(self.texts, name, self.lines)
@@ -258,7 +256,6 @@ impl<'r, 'a> Reader<'r, 'a> {
 
     /// The text of a directive, or another text where it is absent.
     fn text_or(&self, absent: &Text, name: &[u8]) -> Result<Text, AllocError>
-        requires { IsTrue (is_word name.now) }
         ensures { IfOk result (λ text. text ≡ text_or absent.now name.now self.now.lines.now) }
     {
         text_or(self.texts, absent, name, self.lines)
@@ -275,8 +272,7 @@ impl<'r, 'a> Reader<'r, 'a> {
 
 /// The number of a directive that is in its range, or 1 in its absence.
 fn number_or_one(least: u32, most: u32, name: &[u8], lines: &[Line<'_>]) -> u32
-    requires one { 1 ≤ most }
-    requires word { IsTrue (is_word name.now) }
+    requires { 1 ≤ most }
     ensures value { result ≡ number_or 1 least most name.now lines.now }
     ensures within { result ≤ most }
 {

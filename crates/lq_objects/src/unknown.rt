@@ -1,9 +1,8 @@
-ghost use Rattle.std.specs.Prelude.{◌≡◌, IfOk, IsTrue, is_none};
+ghost use Rattle.std.specs.Prelude.{◌≡◌, IfOk, is_none};
 ghost use Rattle.std.specs.List.{list_any};
 ghost use Rattle.lq_objects.specs.Directories.{known};
 ghost use Rattle.lq_objects.specs.Faults.{decides, first_of, is_unknown, names_unknown, unknown_in, unknown_in_block};
 ghost use Rattle.lq_objects.specs.Blocks.{is_named};
-ghost use Rattle.lq_objects.specs.Words.{is_word};
 ghost use Rattle.lq_names.specs.Names.{place_of};
 
 use crate::block::Block;
@@ -123,7 +122,6 @@ impl<'d> Finder<'d> {
 
 /// Whether a line is the last one with a directive.
 fn decides(name: &[u8], line: &Line<'_>, later: &[Line<'_>]) -> bool
-    requires { IsTrue (is_word name.now) }
     ensures { result ≡ decides name.now line.now later.now }
 {
     line.is_named(name) && !is_among(name, later)
@@ -131,7 +129,6 @@ fn decides(name: &[u8], line: &Line<'_>, later: &[Line<'_>]) -> bool
 
 /// Whether a directive is among lines.
 fn is_among(name: &[u8], lines: &[Line<'_>]) -> bool
-    requires { IsTrue (is_word name.now) }
     ensures { result ≡ list_any (λ line. is_named name.now line.text) lines.now }
 {
     lines.iter().any(|line| line.is_named(name))

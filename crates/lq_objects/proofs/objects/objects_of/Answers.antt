@@ -1,5 +1,5 @@
-use Rattle.std.proofs.Common.{sym, ap, ◌∙◌, subst}
-use Rattle.lq_objects.specs.Directories.{AreNamesOf, directory_of, known}
+use Rattle.std.proofs.Common.{sym, subst}
+use Rattle.lq_objects.specs.Directories.{AreNamesOf, known}
 use Rattle.lq_objects.specs.Objects.{objects_of}
 use Rattle.lq_objects.proofs.DirectoryLemmas.{names_of-blocks}
 use Rattle.lq_objects.proofs.objects.objects_of.Goals as goal
