@@ -8,6 +8,6 @@ use Rattle.lq_auth.specs.Rights.{group_has, has_contact}
 
 -- whether a contact stands in lists of contacts, or in a group that they name; it does so exactly
 -- in those of the objects whose contact it is
-abbrev pub is_named : Base → Option ContactId → ContactLists → Bool
-is_named base contact lists =
+abbrev pub is_in_lists : Base → Option ContactId → ContactLists → Bool
+is_in_lists base contact lists =
     has_contact contact lists.contacts || list_any (group_has base contact) lists.contact_groups

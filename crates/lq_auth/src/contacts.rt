@@ -1,7 +1,8 @@
 ghost use Rattle.std.specs.Prelude.{◌≡◌, ◌==◌, ◌||◌, false, IfOk, map, slice_index_or, zip};
 ghost use Rattle.std.specs.List.{list_any};
-ghost use Rattle.lq_auth.specs.Lists.{is_named};
-ghost use Rattle.lq_auth.specs.Rights.{has_contact, is_host_group_seen, is_host_seen, is_service_group_seen, is_service_seen, seen_by};
+ghost use Rattle.lq_auth.specs.Lists.{is_in_lists};
+ghost use Rattle.lq_auth.specs.Rights.{has_contact, is_host_group_seen, is_host_seen};
+ghost use Rattle.lq_auth.specs.Rights.{is_service_group_seen, is_service_seen, seen_by};
 
 use crate::marks::{is_group_seen, is_marked, is_one_marked};
 use crate::view::Seen;
@@ -51,8 +52,8 @@ impl<'a> Viewer<'a> {
     }
 
     /// Whether it is one of the contacts of objects with some lists of contacts.
-    fn is_named(&self, lists: &ContactLists) -> bool
-        ensures { result ≡ is_named self.now.base self.now.contact lists.now }
+    fn is_in_lists(&self, lists: &ContactLists) -> bool
+        ensures { result ≡ is_in_lists self.now.base self.now.contact lists.now }
     {
         is_contact(self.contact, &self.groups, lists)
     }
@@ -61,7 +62,7 @@ impl<'a> Viewer<'a> {
     /// of contacts are asked about once.
     fn marks(&self, alloc: Global, index: ContactIndex<'_>) -> Result<Vec<bool>, Memory>
         ensures { IfOk result (λ marks. marks.items ≡ map (λ place. slice_index_or
-            (map (is_named self.now.base self.now.contact) index.entry.lists.now) place false)
+            (map (is_in_lists self.now.base self.now.contact) index.entry.lists.now) place false)
             index.entry.places.now) }
     {
         let lists = self.list_marks(alloc, index.lists)?;
@@ -74,16 +75,16 @@ impl<'a> Viewer<'a> {
 
     fn list_marks(&self, alloc: Global, lists: &[ContactLists]) -> Result<Vec<bool>, Memory>
         ensures { IfOk result (λ marks. marks.items
-            ≡ map (is_named self.now.base self.now.contact) lists.now) }
+            ≡ map (is_in_lists self.now.base self.now.contact) lists.now) }
     {
         lists
             .iter()
-            .map(|lists| self.is_named(lists))
+            .map(|lists| self.is_in_lists(lists))
             .collect(alloc)
     }
 
     /// What the contact sees of the base. The only error is out of memory.
-    pub(crate) fn seen(&self, alloc: Global) -> Result<Seen, Memory>
+    pub(crate) fn seen_lists(&self, alloc: Global) -> Result<Seen, Memory>
         ensures { IfOk result (λ seen. seen ≡ seen_by self.now.base self.now.contact) }
     {
         let hosts = self.hosts(alloc)?;

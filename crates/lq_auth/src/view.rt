@@ -2,7 +2,8 @@ ghost use Rattle.std.specs.Prelude.{◌≡◌, Bool, IfOk, IsOk, None, Some, fil
 ghost use Rattle.std.specs.Option.{option_copied};
 ghost use Rattle.lq_auth.specs.declared.view.View.{View};
 ghost use Rattle.lq_auth.specs.Lines.{is_open, sees_line};
-ghost use Rattle.lq_auth.specs.Rights.{sees_host, sees_host_group, sees_object, sees_service, sees_service_at, sees_service_group, view_of};
+ghost use Rattle.lq_auth.specs.Rights.{sees_host, sees_host_group, sees_object, sees_service};
+ghost use Rattle.lq_auth.specs.Rights.{sees_service_at, sees_service_group, view_of};
 
 use crate::contacts::Viewer;
 use crate::marks::is_marked;
@@ -79,7 +80,7 @@ impl View {
     {
         let contact = base.contacts.find(user);
         let viewer = Viewer::new(alloc, base, contact)?;
-        Ok(View::Only(viewer.seen(alloc)?))
+        Ok(View::Only(viewer.seen_lists(alloc)?))
     }
 
     /// Those of some objects that are seen, in their order. The only error is out of memory.

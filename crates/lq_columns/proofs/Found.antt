@@ -10,19 +10,19 @@ use Rattle.lq_records.specs.declared.base.Base.{Base}
 use Rattle.lq_records.specs.declared.base.ObjectFields.{ObjectFields}
 use Rattle.lq_records.specs.declared.ids.ContactId.{ContactId}
 use Rattle.lq_columns.specs.Distinct.{first_of_each}
-use Rattle.lq_columns.specs.Names.{contact_names_of, contacts_of, has_text, is_named, members_of, name_of_contact}
+use Rattle.lq_columns.specs.Names.{contact_names_of, contacts_of, has_text, has_own_name, members_of, name_of_contact}
 
 -- ---- names
 
 module _ {A : Type 0} (name_of : A → Option (List ℕ)) (text : List ℕ) where
-  found_first : (name : Option (List ℕ)) (others : List (List ℕ)) → has_text text (cons_option name others) ≡ (is_named text name || has_text text others)
+  found_first : (name : Option (List ℕ)) (others : List (List ℕ)) → has_text text (cons_option name others) ≡ (has_own_name text name || has_text text others)
   found_first None others = refl
   found_first (Some own) others = refl
 
   -- a text is among the names of objects where one of these is named so
-  pub found_by_name : (ids : List A) → has_text text (filter_map name_of ids) ≡ list_any (λ id. is_named text (name_of id)) ids
+  pub found_by_name : (ids : List A) → has_text text (filter_map name_of ids) ≡ list_any (λ id. has_own_name text (name_of id)) ids
   found_by_name [] = refl
-  found_by_name (id ∷ ids) = found_first (name_of id) (filter_map name_of ids) ∙ ap (λ found. is_named text (name_of id) || found) (found_by_name ids)
+  found_by_name (id ∷ ids) = found_first (name_of id) (filter_map name_of ids) ∙ ap (λ found. has_own_name text (name_of id) || found) (found_by_name ids)
 
   found_behind : (front back : List A) → has_text text (filter_map name_of (front ++ back)) ≡ (has_text text (filter_map name_of front) || has_text text (filter_map name_of back))
   found_behind front back =
@@ -58,7 +58,7 @@ contact_found base fields text =
     let name = name_of_contact base in
     let further = flat_map (members_of base) fields.contact_groups in
     found_by_name name text (contacts_of base fields)
-    ∙ found_once (λ id. is_named text (name id)) (fields.contacts ++ further)
+    ∙ found_once (λ id. has_own_name text (name id)) (fields.contacts ++ further)
     ∙ sym (found_by_name name text (fields.contacts ++ further))
     ∙ found_behind name text fields.contacts further
     ∙ ap (λ found. has_text text (contact_names_of base fields.contacts) || found) (found_in_lists name text (members_of base) fields.contact_groups)

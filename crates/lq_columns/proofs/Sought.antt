@@ -11,7 +11,7 @@ use Rattle.lq_records.specs.declared.base.Base.{Base}
 use Rattle.lq_records.specs.declared.base.Contact.{Contact}
 use Rattle.lq_records.specs.declared.base.ObjectFields.{ObjectFields}
 use Rattle.lq_records.specs.declared.ids.ContactId.{ContactId}
-use Rattle.lq_columns.specs.Names.{IsContactNamed, contact_names_of, contacts_of, has_text, is_contact, is_named, members_of, name_of_contact}
+use Rattle.lq_columns.specs.Names.{IsContactNamed, contact_names_of, contacts_of, has_text, is_contact, has_own_name, members_of, name_of_contact}
 use Rattle.lq_columns.proofs.Found.{found_by_name, found_once}
 
 -- ---- by its name
@@ -39,13 +39,13 @@ module _ (contacts : List Contact) (different : AllPairs (λ a b. a ≢ b) (map 
       ]
 
   pub named_at : (place : ℕ) (contact : Contact) → place < length contacts → bytes_eq (get_or contacts place contact).contact_name name ≡ true
-      → (other : ℕ) → is_named name (option_map (λ contact. contact.contact_name) (slice_get contacts other)) ≡ (other == place)
+      → (other : ℕ) → has_own_name name (option_map (λ contact. contact.contact_name) (slice_get contacts other)) ≡ (other == place)
   named_at place contact within here other = elim (slice_get_cases contacts other).1 [
     | inl found ↦
         let own = found.0 in
         let here_too : bytes_eq (get_or contacts place own).contact_name name ≡ true = rw (get_or_default contacts place own contact within) here in
         let at_other : bytes_eq own.contact_name name ≡ bytes_eq (get_or contacts other own).contact_name name = ap (λ (each : Contact). bytes_eq each.contact_name name) (sym found.3) in
-        ap (λ some. is_named name (option_map (λ (each : Contact). each.contact_name) some)) found.2
+        ap (λ some. has_own_name name (option_map (λ (each : Contact). each.contact_name) some)) found.2
         ∙ (elim (cases_eq other place) [
           | inl is ↦ at_other ∙ ap (λ k. bytes_eq (get_or contacts k own).contact_name name) is ∙ here_too ∙ sym (eq-eqb other place is)
           | inr differ ↦
@@ -53,17 +53,17 @@ module _ (contacts : List Contact) (different : AllPairs (λ a b. a ≢ b) (map 
               ∙ sym (ne_eqb other place differ)
         ])
     | inr past ↦
-        ap (λ some. is_named name (option_map (λ (each : Contact). each.contact_name) some)) past.1
+        ap (λ some. has_own_name name (option_map (λ (each : Contact). each.contact_name) some)) past.1
         ∙ sym (ne_eqb other place (λ is. omega (arith, within, past.0, is)))
   ]
 
   pub named_nowhere : ((place : ℕ) (contact : Contact) → place < length contacts → bytes_eq (get_or contacts place contact).contact_name name ≡ false)
-      → (other : ℕ) → is_named name (option_map (λ contact. contact.contact_name) (slice_get contacts other)) ≡ false
+      → (other : ℕ) → has_own_name name (option_map (λ contact. contact.contact_name) (slice_get contacts other)) ≡ false
   named_nowhere none other = elim (slice_get_cases contacts other).1 [
     | inl found ↦
-        ap (λ some. is_named name (option_map (λ (each : Contact). each.contact_name) some)) found.2
+        ap (λ some. has_own_name name (option_map (λ (each : Contact). each.contact_name) some)) found.2
         ∙ ap (λ (each : Contact). bytes_eq each.contact_name name) (sym found.3) ∙ none other found.0 found.1
-    | inr past ↦ ap (λ some. is_named name (option_map (λ (each : Contact). each.contact_name) some)) past.1
+    | inr past ↦ ap (λ some. has_own_name name (option_map (λ (each : Contact). each.contact_name) some)) past.1
   ]
 
 -- ---- by its id
@@ -87,7 +87,7 @@ pub by_id : (base : Base) (fields : ObjectFields) (contact : Option ContactId) (
     → has_text name (contact_names_of base (contacts_of base fields)) ≡ list_any (is_contact contact) (contacts_of base fields)
 by_id base fields contact name named =
     found_by_name (name_of_contact base) name (contacts_of base fields)
-    ∙ any_same (λ id. is_named name (name_of_contact base id)) (is_contact contact) named.same (contacts_of base fields)
+    ∙ any_same (λ id. has_own_name name (name_of_contact base id)) (is_contact contact) named.same (contacts_of base fields)
 
 pub listed_once : (base : Base) (fields : ObjectFields) (contact : ContactId)
     → (list_any (λ id. id.0 == contact.0) fields.contacts || list_any (λ group. list_any (λ id. id.0 == contact.0) (members_of base group)) fields.contact_groups)

@@ -1,5 +1,6 @@
 -- The value that each column has of a host and of a service.
-use Rattle.std.specs.Prelude.{ℕ, ℤ, pos, ◌==◌, ◌&&◌, Bool, Option, List, length, map, filter, if◌then◌else◌}
+use Rattle.std.specs.Prelude.{ℕ, ℤ, pos, ◌==◌, ◌&&◌, Bool, Option, List, length, map, filter}
+use Rattle.std.specs.Prelude.{if◌then◌else◌}
 use Rattle.std.specs.Ordering.{int_eq}
 use Rattle.lq_records.specs.Places.{list_at, made_at}
 use Rattle.lq_records.specs.declared.base.Base.{Base}
@@ -29,7 +30,9 @@ use Rattle.lq_log.specs.LastTold.{is_flapping, is_period_on}
 use Rattle.lq_live.specs.State.{State}
 use Rattle.lq_records.specs.Object.{is_same_object}
 use Rattle.lq_auth.specs.declared.view.View.{View}
-use Rattle.lq_columns.specs.Names.{child_names_of, contact_group_names_of, contact_names_of, contacts_of, descriptions_of, group_names_of, parent_names_of, variable_names_of, variable_values_of}
+use Rattle.lq_columns.specs.Names.{child_names_of, contact_group_names_of, contact_names_of}
+use Rattle.lq_columns.specs.Names.{contacts_of, descriptions_of, group_names_of, parent_names_of}
+use Rattle.lq_columns.specs.Names.{variable_names_of, variable_values_of}
 use Rattle.lq_columns.specs.Counts.{hosts_counted, services_counted, worst_host, worst_service}
 use Rattle.lq_columns.specs.declared.scope.Scope.{Scope}
 use Rattle.lq_columns.specs.declared.scope.Scope.TheVariants as scope
@@ -91,10 +94,10 @@ comment_ids_of s about =
     map (λ comment. comment.id) (filter (λ comment. is_same_object comment.object about) s.comments)
 
 -- the name of the time period in which people are notified about an object
-abbrev pub period_of : Base → Object → List ℕ
-period_of base (object.Host id) =
+abbrev pub notification_period_of : Base → Object → List ℕ
+notification_period_of base (object.Host id) =
     list_at (λ host. host.fields.notification_period) base.hosts id.0
-period_of base (object.Service id) =
+notification_period_of base (object.Service id) =
     list_at (λ service. service.fields.notification_period) base.services id.0
 
 -- flapping and the period follow the log
@@ -116,7 +119,7 @@ status_cell s about status status_column.ScheduledDowntimeDepth = natural (depth
 status_cell s about status status_column.IsFlapping = flag (is_flapping s.base s.log about)
 status_cell s about status status_column.NotificationsEnabled = natural status.notifications_enabled
 status_cell s about status status_column.InNotificationPeriod =
-    flag (is_period_on s.log (period_of s.base about))
+    flag (is_period_on s.log (notification_period_of s.base about))
 status_cell s about status status_column.Comments = Numbers (comment_ids_of s about)
 status_cell s about status status_column.Downtimes = Numbers (downtime_ids_of s about)
 

@@ -1,5 +1,6 @@
 -- The names that an object goes with.
-use Rattle.std.specs.Prelude.{◌≡◌, ℕ, ◌==◌, Bool, false, Option, Some, None, List, [], ◌∷◌, ◌++◌, bytes_eq, nat_eq, map, filter, length, drop, if◌then◌else◌}
+use Rattle.std.specs.Prelude.{◌≡◌, ℕ, ◌==◌, Bool, false, Option, Some, None, List, [], ◌∷◌, ◌++◌}
+use Rattle.std.specs.Prelude.{bytes_eq, nat_eq, map, filter, length, drop, if◌then◌else◌}
 use Rattle.std.specs.List.{filter_map, flat_map, list_any, range_with_len, starts_with}
 use Rattle.std.specs.Option.{option_map_or}
 use Rattle.lq_records.specs.Places.{field_at, fields_at, holds_at, list_at}
@@ -38,8 +39,8 @@ abbrev pub has_text : List ℕ → List (List ℕ) → Bool
 has_text text texts = list_any (λ element. bytes_eq element text) texts
 
 -- whether there is a name, and it is this one
-abbrev pub is_named : List ℕ → Option (List ℕ) → Bool
-is_named text name = option_map_or (λ own. bytes_eq own text) name false
+abbrev pub has_own_name : List ℕ → Option (List ℕ) → Bool
+has_own_name text name = option_map_or (λ own. bytes_eq own text) name false
 
 -- ---- contacts
 
@@ -61,7 +62,7 @@ name_of_contact base id = field_at (λ contact. contact.contact_name) base.conta
 
 -- the contact with a name, None where there is none: no other id is that of a contact so named
 pub record IsContactNamed (base : Base) (name : List ℕ) (contact : Option ContactId) : Type 0 where
-  pub same : (id : ContactId) → is_named name (name_of_contact base id) ≡ is_contact contact id
+  pub same : (id : ContactId) → has_own_name name (name_of_contact base id) ≡ is_contact contact id
 
 -- ---- groups that list an object
 

@@ -57,15 +57,15 @@ IsHeldByService column = Unit {0}
 -- ---- columns whose lists are searched where their texts stand
 
 -- the contacts and the contact groups
-abbrev pub IsSearched : ObjectColumn → Type 0
-IsSearched object.Contacts = Unit {0}
-IsSearched object.ContactGroups = Unit {0}
-IsSearched column = ⊥
+abbrev pub IsSearchedColumn : ObjectColumn → Type 0
+IsSearchedColumn object.Contacts = Unit {0}
+IsSearchedColumn object.ContactGroups = Unit {0}
+IsSearchedColumn column = ⊥
 
 abbrev pub IsSearchedAtHost : HostColumn → Type 0
-IsSearchedAtHost (host.Object column) = IsSearched column
+IsSearchedAtHost (host.Object column) = IsSearchedColumn column
 IsSearchedAtHost column = ⊥
 
 abbrev pub IsSearchedAtService : ServiceColumn → Type 0
-IsSearchedAtService (service.Object column) = IsSearched column
+IsSearchedAtService (service.Object column) = IsSearchedColumn column
 IsSearchedAtService column = ⊥

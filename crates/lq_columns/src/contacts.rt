@@ -2,7 +2,8 @@ ghost use Rattle.std.specs.Prelude.{◌≡◌, ◌==◌, ◌++◌, ℕ, [], IfOk
 ghost use Rattle.std.specs.List.{list_any};
 ghost use Rattle.lq_records.specs.Sound.{IsSound};
 ghost use Rattle.lq_columns.specs.Distinct.{stands_in, with_new, with_one};
-ghost use Rattle.lq_columns.specs.Names.{IsContactNamed, contact_names_of, contacts_of, has_text, members_of};
+ghost use Rattle.lq_columns.specs.Names.{IsContactNamed, contact_names_of, contacts_of, has_text};
+ghost use Rattle.lq_columns.specs.Names.{members_of};
 
 use crate::names::has_name;
 use lq_records::{Base, ContactGroupId, ContactId, Memory, ObjectFields};

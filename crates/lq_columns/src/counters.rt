@@ -1,9 +1,10 @@
 ghost use Rattle.std.specs.Prelude.{◌≡◌, [], ◌∷◌, length, filter, map, max, fold};
 ghost use Rattle.std.specs.List.{filter_map, slice_get};
-ghost use Rattle.lq_schema.specs.Value.{shown};
+ghost use Rattle.lq_schema.specs.Value.{meaning_of};
 ghost use Rattle.lq_auth.specs.Rights.{sees_host};
 ghost use Rattle.lq_columns.specs.Cells.{hosts_cell, natural, services_cell};
-ghost use Rattle.lq_columns.specs.Counts.{counts_at, hosts_counted, services_counted, worst_host, worst_of, worst_service};
+ghost use Rattle.lq_columns.specs.Counts.{counts_at, hosts_counted, services_counted, worst_host};
+ghost use Rattle.lq_columns.specs.Counts.{worst_of, worst_service};
 ghost use Rattle.lq_columns.specs.Severity.{host_severity, severity_at};
 
 use crate::counted::{Counted, counts_at};
@@ -30,7 +31,7 @@ pub fn services_value(
     scope: Scope,
     column: ServiceCounter,
 ) -> Val<'static>
-    ensures { shown result ≡ services_cell live.now.state view.now scope column }
+    ensures { meaning_of result ≡ services_cell live.now.state view.now scope column }
 {
     match column {
         ServiceCounter::NumServices => services_in(alloc, live, view, scope, Counted::All),
@@ -56,7 +57,7 @@ fn services_in(
     scope: Scope,
     which: Counted,
 ) -> Val<'static>
-    ensures { shown result
+    ensures { meaning_of result
         ≡ natural (services_counted live.now.state view.now scope which) }
 {
     let selection = Selection::new(alloc, live.base(), view, scope);
@@ -64,7 +65,7 @@ fn services_in(
 }
 
 fn worst_service(alloc: Global, live: &Live, view: &View, scope: Scope) -> Val<'static>
-    ensures { shown result ≡ natural (worst_service live.now.state view.now scope) }
+    ensures { meaning_of result ≡ natural (worst_service live.now.state view.now scope) }
 {
     let selection = Selection::new(alloc, live.base(), view, scope);
     Val::Int(i128::from(selection.worst(live.service_statuses())))
@@ -81,7 +82,7 @@ pub fn hosts_value(
     group: HostGroupId,
     column: HostCounter,
 ) -> Val<'static>
-    ensures { shown result ≡ hosts_cell live.now.state view.now group column }
+    ensures { meaning_of result ≡ hosts_cell live.now.state view.now group column }
 {
     match column {
         HostCounter::NumHosts => hosts_in(live, view, group, Counted::All),
@@ -94,7 +95,7 @@ pub fn hosts_value(
 }
 
 fn hosts_in(live: &Live, view: &View, group: HostGroupId, which: Counted) -> Val<'static>
-    ensures { shown result ≡ natural (hosts_counted live.now.state view.now group which) }
+    ensures { meaning_of result ≡ natural (hosts_counted live.now.state view.now group which) }
 {
     let members = members_of_hosts(live.base(), group);
     Val::Int(count_hosts(live.host_statuses(), view, members, which) as i128)
@@ -112,7 +113,7 @@ fn count_hosts(statuses: &[Status], view: &View, members: &[HostId], which: Coun
 }
 
 fn worst_host(live: &Live, view: &View, group: HostGroupId) -> Val<'static>
-    ensures { shown result ≡ natural (worst_host live.now.state view.now group) }
+    ensures { meaning_of result ≡ natural (worst_host live.now.state view.now group) }
 {
     let members = members_of_hosts(live.base(), group);
     Val::Int(i128::from(worst_among(live.host_statuses(), view, members)))

@@ -1,6 +1,6 @@
 ghost use Rattle.std.specs.Prelude.{◌≡◌};
 ghost use Rattle.std.specs.Option.{IfSome, IsSome};
-ghost use Rattle.lq_schema.specs.Value.{Number, Words, empty_value, shown};
+ghost use Rattle.lq_schema.specs.Value.{Number, Words, empty_value, meaning_of};
 ghost use Rattle.lq_columns.specs.Cells.{flag};
 ghost use Rattle.lq_columns.specs.Plain.{HasNumbers, HasTexts};
 
@@ -18,7 +18,7 @@ pub fn flag(holds: bool) -> i128
 /// The value of a cell without an object, by the kind of its column: 0, an empty text or an empty
 /// list. It takes no memory.
 pub fn empty_value(alloc: Global, kind: ColKind) -> Val<'static>
-    ensures { shown result ≡ empty_value kind }
+    ensures { meaning_of result ≡ empty_value kind }
 {
     match kind {
         ColKind::Int => Val::Int(0),

@@ -5,10 +5,11 @@ ghost use Rattle.lq_live.specs.State.{State};
 ghost use Rattle.lq_schema.specs.declared.columns.OwnColumn.TheVariants as own;
 ghost use Rattle.lq_schema.specs.declared.host.HostColumn.{HostColumn};
 ghost use Rattle.lq_schema.specs.Kinds.{host_kind, own_kind};
-ghost use Rattle.lq_schema.specs.Value.{Number, Texts, Words, empty_value, shown};
+ghost use Rattle.lq_schema.specs.Value.{Number, Texts, Words, empty_value, meaning_of};
 ghost use Rattle.lq_columns.specs.Cells.{HostRecord, host_at, host_cell, host_record};
 ghost use Rattle.lq_columns.specs.Names.{IsContactNamed, contact_names_of, contacts_of, has_text};
-ghost use Rattle.lq_columns.specs.Plain.{HasNumbers, HasTexts, IsHeldByHost, IsPlain, IsSearchedAtHost};
+ghost use Rattle.lq_columns.specs.Plain.{HasNumbers, HasTexts, IsHeldByHost, IsPlain};
+ghost use Rattle.lq_columns.specs.Plain.{IsSearchedAtHost};
 
 use crate::contacts::lists_contact;
 use crate::counters::services_value;
@@ -120,7 +121,7 @@ impl<'a> HostRow<'a> {
         column: HostColumn,
     ) -> Result<Val<'a>, Memory>
         ensures value { IfOk result (λ v.
-            shown v ≡ host_cell live.now.state view.now (host_record self.now) column) }
+            meaning_of v ≡ host_cell live.now.state view.now (host_record self.now) column) }
         ensures plain { IsPlain (host_kind column) → IsOk result }
     {
         let host = self.host;
@@ -159,11 +160,11 @@ pub fn host_value<'a>(
 ) -> Result<Val<'a>, Memory>
     ensures value { (about : HostRecord) (column : HostColumn)
         → host_at live.now.state id ≡ Some about → c.own ≡ own.Host column
-        → IfOk result (λ v. shown v ≡ host_cell live.now.state view.now about column) }
+        → IfOk result (λ v. meaning_of v ≡ host_cell live.now.state view.now about column) }
     ensures nothing { host_at live.now.state id ≡ None
-        → IfOk result (λ v. shown v ≡ empty_value (own_kind c.own)) }
+        → IfOk result (λ v. meaning_of v ≡ empty_value (own_kind c.own)) }
     ensures other { ((column : HostColumn) → c.own ≢ own.Host column)
-        → IfOk result (λ v. shown v ≡ empty_value (own_kind c.own)) }
+        → IfOk result (λ v. meaning_of v ≡ empty_value (own_kind c.own)) }
     ensures plain { IsPlain (own_kind c.own) → IsOk result }
 {
     let OwnColumn::Host(column) = c.own else {

@@ -25,4 +25,4 @@ pub use host::{HostRow, host_value};
 pub use names::{Named, names_of};
 pub use scope::Scope;
 pub use service::{ServiceRow, service_value};
-pub use status::{period_of, status_number};
+pub use status::{notification_period_of, status_number};

@@ -1,8 +1,13 @@
-ghost use Rattle.std.specs.Prelude.{◌≡◌, ◌++◌, ◌<◌, ◌^◌, ℕ, IfOk, List, OnOk, Option, filter_map, length, map, option_to_list};
+ghost use Rattle.std.specs.Prelude.{◌≡◌, ◌++◌, ◌<◌, ◌^◌, ℕ, IfOk, List, OnOk, Option, filter_map};
+ghost use Rattle.std.specs.Prelude.{length, map, option_to_list};
 ghost use Rattle.lq_records.specs.Places.{field_at};
 ghost use Rattle.lq_records.specs.declared.base.Base.{Base};
 ghost use Rattle.std.specs.Option.{option_copied};
-ghost use Rattle.lq_columns.specs.Names.{child_names_of, descriptions_of, group_names_of, has_host, has_service, has_text, is_child_of, is_named, name_of_contact, name_with_host, name_with_service, parent_names_of, seen_children, seen_services, variable_names_of, variable_values_of, without_underscore};
+ghost use Rattle.lq_columns.specs.Names.{child_names_of, descriptions_of, group_names_of, has_host};
+ghost use Rattle.lq_columns.specs.Names.{has_service, has_text, is_child_of, has_own_name};
+ghost use Rattle.lq_columns.specs.Names.{name_of_contact, name_with_host, name_with_service};
+ghost use Rattle.lq_columns.specs.Names.{parent_names_of, seen_children, seen_services};
+ghost use Rattle.lq_columns.specs.Names.{variable_names_of, variable_values_of, without_underscore};
 
 use crate::selection::is_service_of;
 use lq_auth::View;
@@ -85,11 +90,11 @@ pub fn names_of<I: Named>(alloc: Global, base: &Base, ids: &[I]) -> Result<Items
 pub(crate) fn has_name<I: Named>(base: &Base, ids: &[I], name: &str) -> bool
     ensures { result ≡ has_text name.now (filter_map (I.name_of base.now) ids.now) }
 {
-    ids.iter().any(|id| is_named(base, *id, name))
+    ids.iter().any(|id| has_own_name(base, *id, name))
 }
 
-fn is_named<I: Named>(base: &Base, id: I, name: &str) -> bool
-    ensures { result ≡ is_named name.now (I.name_of base.now id) }
+fn has_own_name<I: Named>(base: &Base, id: I, name: &str) -> bool
+    ensures { result ≡ has_own_name name.now (I.name_of base.now id) }
 {
     match id.name(base) {
         Some(own) => own.as_str() == name,

@@ -1,10 +1,11 @@
 ghost use Rattle.std.specs.Prelude.{◌≡◌, ℕ, IfOk, IsOk, List};
 ghost use Rattle.std.specs.Option.{IfSome, IsSome};
 ghost use Rattle.lq_schema.specs.Kinds.{object_kind};
-ghost use Rattle.lq_schema.specs.Value.{Number, Texts, Words, shown};
+ghost use Rattle.lq_schema.specs.Value.{Number, Texts, Words, meaning_of};
 ghost use Rattle.lq_columns.specs.Cells.{object_cell};
-ghost use Rattle.lq_columns.specs.Names.{contact_group_names_of, contact_names_of, contacts_of, has_text};
-ghost use Rattle.lq_columns.specs.Plain.{HasNumbers, HasTexts, IsPlain, IsSearched};
+ghost use Rattle.lq_columns.specs.Names.{contact_group_names_of, contact_names_of, contacts_of};
+ghost use Rattle.lq_columns.specs.Names.{has_text};
+ghost use Rattle.lq_columns.specs.Plain.{HasNumbers, HasTexts, IsPlain, IsSearchedColumn};
 ghost use Rattle.lq_records.specs.declared.base.Base.{Base};
 ghost use Rattle.lq_records.specs.declared.object.Object.{Object};
 
@@ -60,7 +61,7 @@ pub(crate) fn object_contains(
     ensures value { (about : Object) → IfSome result (λ found. (texts : List (List ℕ))
         × (object_cell base.now about fields.now column ≡ Texts texts)
         × (found ≡ has_text text.now texts)) }
-    ensures given { IsSearched column → IsSome result }
+    ensures given { IsSearchedColumn column → IsSome result }
 {
     match column {
         ObjectColumn::Contacts => Some(has_contact(base, fields, text)),
@@ -79,7 +80,7 @@ impl<'a> Monitored<'a> {
         column: ObjectColumn,
     ) -> Result<Val<'a>, Memory>
         ensures value { IfOk result (λ v.
-            shown v
+            meaning_of v
             ≡ object_cell self.now.live.now.state.base self.now.about self.now.fields.now column) }
         ensures plain { IsPlain (object_kind column) → IsOk result }
     {

@@ -1,6 +1,7 @@
 ghost use Rattle.std.specs.Prelude.{◌≡◌, [], ◌∷◌, length, filter, map, max, fold};
 ghost use Rattle.std.specs.List.{filter_map, slice_get};
-ghost use Rattle.lq_columns.specs.Counts.{counts_at, group_lists, group_members, is_group_service, is_in_scope, seen_places, service_members, worst_of};
+ghost use Rattle.lq_columns.specs.Counts.{counts_at, group_lists, group_members, is_group_service};
+ghost use Rattle.lq_columns.specs.Counts.{is_in_scope, seen_places, service_members, worst_of};
 ghost use Rattle.lq_columns.specs.Marks.{AreMarks, AreMarksOf, has_place};
 ghost use Rattle.lq_columns.specs.Names.{is_service_of};
 ghost use Rattle.lq_columns.specs.Severity.{service_severity, severity_at};

@@ -4,10 +4,11 @@ ghost use Rattle.lq_live.specs.State.{State};
 ghost use Rattle.lq_schema.specs.declared.columns.OwnColumn.TheVariants as own;
 ghost use Rattle.lq_schema.specs.declared.service.ServiceColumn.{ServiceColumn};
 ghost use Rattle.lq_schema.specs.Kinds.{service_kind, own_kind};
-ghost use Rattle.lq_schema.specs.Value.{Number, Texts, Words, empty_value, shown};
+ghost use Rattle.lq_schema.specs.Value.{Number, Texts, Words, empty_value, meaning_of};
 ghost use Rattle.lq_columns.specs.Cells.{ServiceRecord, service_at, service_cell, service_record};
 ghost use Rattle.lq_columns.specs.Names.{IsContactNamed, contact_names_of, contacts_of, has_text};
-ghost use Rattle.lq_columns.specs.Plain.{HasNumbers, HasTexts, IsHeldByService, IsPlain, IsSearchedAtService};
+ghost use Rattle.lq_columns.specs.Plain.{HasNumbers, HasTexts, IsHeldByService, IsPlain};
+ghost use Rattle.lq_columns.specs.Plain.{IsSearchedAtService};
 
 use crate::contacts::lists_contact;
 use crate::empty::empty_value;
@@ -113,7 +114,7 @@ impl<'a> ServiceRow<'a> {
         column: ServiceColumn,
     ) -> Result<Val<'a>, Memory>
         ensures value { IfOk result (λ v.
-            shown v ≡ service_cell live.now.state (service_record self.now) column) }
+            meaning_of v ≡ service_cell live.now.state (service_record self.now) column) }
         ensures plain { IsPlain (service_kind column) → IsOk result }
     {
         let service = self.service;
@@ -143,11 +144,11 @@ pub fn service_value<'a>(
 ) -> Result<Val<'a>, Memory>
     ensures value { (about : ServiceRecord) (column : ServiceColumn)
         → service_at live.now.state id ≡ Some about → c.own ≡ own.Service column
-        → IfOk result (λ v. shown v ≡ service_cell live.now.state about column) }
+        → IfOk result (λ v. meaning_of v ≡ service_cell live.now.state about column) }
     ensures nothing { service_at live.now.state id ≡ None
-        → IfOk result (λ v. shown v ≡ empty_value (own_kind c.own)) }
+        → IfOk result (λ v. meaning_of v ≡ empty_value (own_kind c.own)) }
     ensures other { ((column : ServiceColumn) → c.own ≢ own.Service column)
-        → IfOk result (λ v. shown v ≡ empty_value (own_kind c.own)) }
+        → IfOk result (λ v. meaning_of v ≡ empty_value (own_kind c.own)) }
     ensures plain { IsPlain (own_kind c.own) → IsOk result }
 {
     let OwnColumn::Service(column) = c.own else {

@@ -2,7 +2,8 @@
 
 ghost use Rattle.std.specs.Prelude.{◌≡◌};
 ghost use Rattle.lq_columns.specs.Counts.{state_of_member};
-ghost use Rattle.lq_columns.specs.Severity.{host_severity, host_state_by, service_severity, service_state_by, severity_at};
+ghost use Rattle.lq_columns.specs.Severity.{host_severity, host_state_by, service_severity};
+ghost use Rattle.lq_columns.specs.Severity.{service_state_by, severity_at};
 
 use crate::counted::is_pending;
 use lq_events::Status;

@@ -3,9 +3,10 @@ ghost use Rattle.std.specs.Option.{IfSome, IsSome};
 ghost use Rattle.lq_live.specs.State.{State};
 ghost use Rattle.lq_records.specs.declared.object.Object.{Object};
 ghost use Rattle.lq_schema.specs.Kinds.{status_kind};
-ghost use Rattle.lq_schema.specs.Value.{Number, Numbers, Words, shown};
+ghost use Rattle.lq_schema.specs.Value.{Number, Numbers, Words, meaning_of};
 ghost use Rattle.lq_log.specs.LastTold.{is_period_on};
-ghost use Rattle.lq_columns.specs.Cells.{comment_ids_of, downtime_ids_of, hard_state, period_of, status_cell};
+ghost use Rattle.lq_columns.specs.Cells.{comment_ids_of, downtime_ids_of, hard_state};
+ghost use Rattle.lq_columns.specs.Cells.{notification_period_of, status_cell};
 ghost use Rattle.lq_columns.specs.Plain.{HasNumbers, HasTexts, IsHeldByStatus, IsPlain};
 
 use crate::empty::flag;
@@ -63,7 +64,7 @@ impl<'a> Monitored<'a> {
         column: StatusColumn,
     ) -> Result<Val<'a>, Memory>
         ensures value { IfOk result (λ v.
-            shown v
+            meaning_of v
             ≡ status_cell self.now.live.now.state self.now.about self.now.status.now column) }
         ensures plain { IsPlain (status_kind column) → IsOk result }
     {
@@ -103,14 +104,14 @@ impl<'a> Monitored<'a> {
 /// Whether people are notified about an object at the present second, by its time period.
 fn is_in_period(live: &Live, about: Object) -> bool
     ensures { result
-        ≡ is_period_on live.now.state.log (period_of live.now.state.base about) }
+        ≡ is_period_on live.now.state.log (notification_period_of live.now.state.base about) }
 {
-    live.is_period_on(period_of(live.base(), about))
+    live.is_period_on(notification_period_of(live.base(), about))
 }
 
 /// The name of the time period in which people are notified about an object.
-pub fn period_of(base: &Base, about: Object) -> &str
-    ensures { result.now ≡ period_of base.now about }
+pub fn notification_period_of(base: &Base, about: Object) -> &str
+    ensures { result.now ≡ notification_period_of base.now about }
 {
     let fields = match about {
         Object::Host(id) => base
@@ -144,14 +145,14 @@ fn hard_state(status: &Status) -> i64
 }
 
 fn comments_value(alloc: Global, live: &Live, about: Object) -> Result<Val<'static>, Memory>
-    ensures { IfOk result (λ v. shown v ≡ Numbers (comment_ids_of live.now.state about)) }
+    ensures { IfOk result (λ v. meaning_of v ≡ Numbers (comment_ids_of live.now.state about)) }
 {
     let ids = comment_ids_of(alloc, live, about)?;
     Ok(Val::Nums(Items::from_vec(ids)))
 }
 
 fn downtimes_value(alloc: Global, live: &Live, about: Object) -> Result<Val<'static>, Memory>
-    ensures { IfOk result (λ v. shown v ≡ Numbers (downtime_ids_of live.now.state about)) }
+    ensures { IfOk result (λ v. meaning_of v ≡ Numbers (downtime_ids_of live.now.state about)) }
 {
     let ids = downtime_ids_of(alloc, live, about)?;
     Ok(Val::Nums(Items::from_vec(ids)))

@@ -10,8 +10,10 @@ use Rattle.lq_records.specs.declared.object.ObjectKind.{ObjectKind}
 use Rattle.lq_records.specs.declared.object.ObjectKind.TheVariants as kind
 use Rattle.lq_events.specs.declared.update.Act.{Act}
 use Rattle.lq_events.specs.declared.update.Act.TheVariants as act
-use Rattle.lq_commands.specs.Fields.{Fields, all_fields, field, host_in, later, number_in, service_in}
-use Rattle.lq_commands.specs.Forms.{acknowledgement_in, after_object, check_result_in, comment_in, downtime_in, object_in}
+use Rattle.lq_commands.specs.Fields.{Fields, all_fields, field, host_in, later, number_in}
+use Rattle.lq_commands.specs.Fields.{service_in}
+use Rattle.lq_commands.specs.Forms.{acknowledgement_in, after_object, check_result_in, comment_in}
+use Rattle.lq_commands.specs.Forms.{downtime_in, object_in}
 use Rattle.lq_commands.specs.declared.form.AcknowledgementFields.{AcknowledgementFields}
 use Rattle.lq_commands.specs.declared.form.CheckResultFields.{CheckResultFields}
 use Rattle.lq_commands.specs.declared.form.CommentFields.{CommentFields}

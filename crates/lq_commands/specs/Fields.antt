@@ -1,5 +1,6 @@
 -- The fields of a command: what stands between semicolons. They are read in turn, the word first.
-use Rattle.std.specs.Prelude.{ℕ, zero, suc, ◌^◌, ◌==◌, ◌&&◌, nat_lt, nat_le, Bool, Option, Some, None, List, length, if◌then◌else◌}
+use Rattle.std.specs.Prelude.{ℕ, zero, suc, ◌^◌, ◌==◌, ◌&&◌, nat_lt, nat_le, Bool, Option, Some}
+use Rattle.std.specs.Prelude.{None, List, length, if◌then◌else◌}
 use Rattle.std.specs.Char.{is_ascii_digit}
 use Rattle.std.specs.List.{after_first, before_first, list_all, position_or_len}
 use Rattle.std.specs.Option.{option_and_then, option_map}
@@ -34,9 +35,9 @@ after_semicolon text =
 abbrev pub later : Fields → Fields
 later fields = record fields { rest = option_and_then after_semicolon fields.rest }
 
-abbrev pub after : ℕ → Fields → Fields
-after zero fields = fields
-after (suc count) fields = later (after count fields)
+abbrev pub fields_after : ℕ → Fields → Fields
+fields_after zero fields = fields
+fields_after (suc count) fields = later (fields_after count fields)
 
 -- ---- the first of some fields
 

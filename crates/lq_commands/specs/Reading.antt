@@ -6,14 +6,14 @@ use Rattle.lq_commands.specs.declared.order.CommandErr.{CommandErr}
 use Rattle.lq_commands.specs.declared.order.CommandErr.TheVariants as error
 
 -- the value, or that there is none, is what the definition says; running out of memory is free
-abbrev pub Gives : {X : Type 0} → Result X FieldErr → Option X → Type 0
-Gives (Ok value) read = read ≡ Some value
-Gives (Err fault.Faulty) read = read ≡ None
-Gives (Err fault.Memory) read = Unit {0}
+abbrev pub GivesValue : {X : Type 0} → Result X FieldErr → Option X → Type 0
+GivesValue (Ok value) read = read ≡ Some value
+GivesValue (Err fault.Faulty) read = read ≡ None
+GivesValue (Err fault.Memory) read = Unit {0}
 
 -- the order, or that the line has no time, is what the definition says; running out of memory is
 -- free
-abbrev pub Reads : {X : Type 0} → Result X CommandErr → Option X → Type 0
-Reads (Ok order) read = read ≡ Some order
-Reads (Err error.NoTime) read = read ≡ None
-Reads (Err error.Memory) read = Unit {0}
+abbrev pub ReadsOrder : {X : Type 0} → Result X CommandErr → Option X → Type 0
+ReadsOrder (Ok order) read = read ≡ Some order
+ReadsOrder (Err error.NoTime) read = read ≡ None
+ReadsOrder (Err error.Memory) read = Unit {0}

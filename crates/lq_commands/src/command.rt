@@ -1,6 +1,8 @@
 ghost use Rattle.std.specs.Prelude.{◌≡◌, IfOk};
-ghost use Rattle.lq_commands.specs.Commands.{acknowledgement, acknowledgement_act, act_by, act_in, act_of, check_result, check_result_act, comment, comment_act, downtime, downtime_act};
-ghost use Rattle.lq_commands.specs.Reading.{Gives};
+ghost use Rattle.lq_commands.specs.Commands.{acknowledgement, acknowledgement_act, act_by, act_in};
+ghost use Rattle.lq_commands.specs.Commands.{act_of, check_result, check_result_act, comment};
+ghost use Rattle.lq_commands.specs.Commands.{comment_act, downtime, downtime_act};
+ghost use Rattle.lq_commands.specs.Reading.{GivesValue};
 
 use crate::field::{FieldErr, Fields};
 use crate::form::{AcknowledgementFields, CheckResultFields, CommentFields, DowntimeFields};
@@ -24,7 +26,7 @@ pub(crate) fn act_of(alloc: Global, base: &Base, text: &str) -> Result<Act, Memo
 /// What a command does, by its fields, of which the first is its word.
 #[tactic(auto, unfolding(crate::specs::Commands::act_in))]
 fn act_in(fields: &mut Fields) -> Result<Act, FieldErr>
-    ensures { Gives result (act_in fields.old) }
+    ensures { GivesValue result (act_in fields.old) }
 {
     let word = fields.next().ok_or(FieldErr::Faulty)?;
     act_by(word, fields)
@@ -33,7 +35,7 @@ fn act_in(fields: &mut Fields) -> Result<Act, FieldErr>
 /// What a command does, by its word and the fields after it.
 #[tactic(auto, unfolding(crate::specs::Commands::act_by))]
 fn act_by(word: &str, rest: &mut Fields) -> Result<Act, FieldErr>
-    ensures { Gives result (act_by word.now rest.old) }
+    ensures { GivesValue result (act_by word.now rest.old) }
 {
     use ObjectKind::{Host, Service};
     Ok(match word {
@@ -69,7 +71,7 @@ fn act_by(word: &str, rest: &mut Fields) -> Result<Act, FieldErr>
 
 #[tactic(auto, unfolding(crate::specs::Commands::check_result))]
 fn check_result(kind: ObjectKind, fields: &mut Fields) -> Result<Act, FieldErr>
-    ensures { Gives result (check_result kind fields.old) }
+    ensures { GivesValue result (check_result kind fields.old) }
 {
     let object = fields.object(kind)?;
     let found = fields.check_result(kind)?;
@@ -78,7 +80,7 @@ fn check_result(kind: ObjectKind, fields: &mut Fields) -> Result<Act, FieldErr>
 
 #[tactic(auto, unfolding(crate::specs::Commands::comment))]
 fn comment(kind: ObjectKind, fields: &mut Fields) -> Result<Act, FieldErr>
-    ensures { Gives result (comment kind fields.old) }
+    ensures { GivesValue result (comment kind fields.old) }
 {
     let object = fields.object(kind)?;
     let comment = fields.comment()?;
@@ -87,7 +89,7 @@ fn comment(kind: ObjectKind, fields: &mut Fields) -> Result<Act, FieldErr>
 
 #[tactic(auto, unfolding(crate::specs::Commands::acknowledgement))]
 fn acknowledgement(kind: ObjectKind, fields: &mut Fields) -> Result<Act, FieldErr>
-    ensures { Gives result (acknowledgement kind fields.old) }
+    ensures { GivesValue result (acknowledgement kind fields.old) }
 {
     let object = fields.object(kind)?;
     let given = fields.acknowledgement()?;
@@ -96,7 +98,7 @@ fn acknowledgement(kind: ObjectKind, fields: &mut Fields) -> Result<Act, FieldEr
 
 #[tactic(auto, unfolding(crate::specs::Commands::downtime))]
 fn downtime(kind: ObjectKind, fields: &mut Fields) -> Result<Act, FieldErr>
-    ensures { Gives result (downtime kind fields.old) }
+    ensures { GivesValue result (downtime kind fields.old) }
 {
     let object = fields.object(kind)?;
     let downtime = fields.downtime()?;

@@ -1,8 +1,10 @@
 ghost use Rattle.std.specs.Prelude.{◌≡◌, [], IfOk, OnOk};
 ghost use Rattle.std.specs.List.{before_first};
 ghost use Rattle.std.specs.Option.{option_copied, unwrap_or};
-ghost use Rattle.lq_commands.specs.Fields.{after, after_semicolon, all_fields, field, host_in, is_semicolon, later, number, number_in, second, second_in, service_in};
-ghost use Rattle.lq_commands.specs.Reading.{Gives};
+ghost use Rattle.lq_commands.specs.Fields.{fields_after, after_semicolon, all_fields, field};
+ghost use Rattle.lq_commands.specs.Fields.{host_in, is_semicolon, later, number, number_in, second};
+ghost use Rattle.lq_commands.specs.Fields.{second_in, service_in};
+ghost use Rattle.lq_commands.specs.Reading.{GivesValue};
 
 use lq_records::{Base, HostId, Memory, ServiceId, Text};
 use lq_text::read_u64;
@@ -80,7 +82,7 @@ impl<'a> Fields<'a> {
     /// Takes a field that is a number.
     #[tactic(auto, unfolding(crate::specs::Fields::number_in))]
     pub(crate) fn number(&mut self) -> Result<u64, FieldErr>
-        ensures value { Gives result (number_in self.old) }
+        ensures value { GivesValue result (number_in self.old) }
         ensures rest { self.new ≡ later self.old }
     {
         let digits = self.next().ok_or(FieldErr::Faulty)?;
@@ -90,7 +92,7 @@ impl<'a> Fields<'a> {
     /// Takes a field that is a second, counted from the beginning of 1970, of at most 12 digits.
     #[tactic(auto, unfolding(crate::specs::Fields::second_in))]
     pub(crate) fn second(&mut self) -> Result<u64, FieldErr>
-        ensures value { Gives result (second_in self.old) }
+        ensures value { GivesValue result (second_in self.old) }
         ensures rest { self.new ≡ later self.old }
     {
         let digits = self.next().ok_or(FieldErr::Faulty)?;
@@ -99,7 +101,7 @@ impl<'a> Fields<'a> {
 
     /// Takes a field that is a text.
     pub(crate) fn text(&mut self) -> Result<Text, FieldErr>
-        ensures value { Gives result (field self.old) }
+        ensures value { GivesValue result (field self.old) }
         ensures rest { self.new ≡ later self.old }
     {
         let field = self.next().ok_or(FieldErr::Faulty)?;
@@ -108,7 +110,7 @@ impl<'a> Fields<'a> {
 
     /// The text of all fields that are left, with their semicolons: a last field that is a text.
     pub(crate) fn last_text(&self) -> Result<Text, FieldErr>
-        ensures { Gives result self.now.rest }
+        ensures { GivesValue result self.now.rest }
     {
         let rest = self.rest.ok_or(FieldErr::Faulty)?;
         Ok(Text::new(self.alloc, rest)?)
@@ -127,7 +129,7 @@ impl<'a> Fields<'a> {
     /// Takes a field that names a host.
     #[tactic(auto, unfolding(crate::specs::Fields::host_in))]
     pub(crate) fn host(&mut self) -> Result<HostId, FieldErr>
-        ensures value { Gives result (host_in self.old) }
+        ensures value { GivesValue result (host_in self.old) }
         ensures rest { self.new ≡ later self.old }
     {
         let name = self.next().ok_or(FieldErr::Faulty)?;
@@ -137,8 +139,8 @@ impl<'a> Fields<'a> {
     /// Takes two fields that name a service: its host's name and its description.
     #[tactic(auto, unfolding(crate::specs::Fields::service_in))]
     pub(crate) fn service(&mut self) -> Result<ServiceId, FieldErr>
-        ensures value { Gives result (service_in self.old) }
-        ensures rest { OnOk result (self.new ≡ after 2 self.old) }
+        ensures value { GivesValue result (service_in self.old) }
+        ensures rest { OnOk result (self.new ≡ fields_after 2 self.old) }
     {
         let host = self.next().ok_or(FieldErr::Faulty)?;
         let description = self.next().ok_or(FieldErr::Faulty)?;

@@ -1,7 +1,9 @@
 ghost use Rattle.std.specs.Prelude.{◌≡◌, OnOk};
 ghost use Rattle.lq_commands.specs.Fields.{later};
-ghost use Rattle.lq_commands.specs.Forms.{acknowledgement_in, after_object, check_result_in, code_in, comment_in, downtime_in, most_code, object_in};
-ghost use Rattle.lq_commands.specs.Reading.{Gives};
+ghost use Rattle.lq_commands.specs.Forms.{acknowledgement_in, after_object, check_result_in};
+ghost use Rattle.lq_commands.specs.Forms.{code_in, comment_in, downtime_in, most_code_of_kind};
+ghost use Rattle.lq_commands.specs.Forms.{object_in};
+ghost use Rattle.lq_commands.specs.Reading.{GivesValue};
 
 use crate::field::{FieldErr, Fields};
 use lq_records::{Object, ObjectKind, Text};
@@ -46,7 +48,7 @@ impl<'a> Fields<'a> {
     /// Takes the fields that name a host or a service.
     #[tactic(auto, unfolding(crate::specs::Forms::object_in))]
     pub(crate) fn object(&mut self, kind: ObjectKind) -> Result<Object, FieldErr>
-        ensures value { Gives result (object_in kind self.old) }
+        ensures value { GivesValue result (object_in kind self.old) }
         ensures rest { OnOk result (self.new ≡ after_object kind self.old) }
     {
         match kind {
@@ -58,11 +60,11 @@ impl<'a> Fields<'a> {
     /// Takes the code of a check's result.
     #[tactic(auto, unfolding(crate::specs::Forms::code_in))]
     fn code(&mut self, kind: ObjectKind) -> Result<u64, FieldErr>
-        ensures value { Gives result (code_in kind self.old) }
+        ensures value { GivesValue result (code_in kind self.old) }
         ensures rest { OnOk result (self.new ≡ later self.old) }
     {
         let code = self.number()?;
-        if code <= most_code(kind) {
+        if code <= most_code_of_kind(kind) {
             Ok(code)
         } else {
             Err(FieldErr::Faulty)
@@ -72,7 +74,7 @@ impl<'a> Fields<'a> {
     /// Takes a check's result, whose output is empty where it is missing.
     #[tactic(auto, unfolding(crate::specs::Forms::check_result_in))]
     pub(crate) fn check_result(&mut self, kind: ObjectKind) -> Result<CheckResultFields, FieldErr>
-        ensures { Gives result (check_result_in kind self.old) }
+        ensures { GivesValue result (check_result_in kind self.old) }
     {
         let code = self.code(kind)?;
         let output = self.last_text_or_empty()?;
@@ -82,7 +84,7 @@ impl<'a> Fields<'a> {
     /// Takes the fields of a comment.
     #[tactic(auto, unfolding(crate::specs::Forms::comment_in))]
     pub(crate) fn comment(&mut self) -> Result<CommentFields, FieldErr>
-        ensures { Gives result (comment_in self.old) }
+        ensures { GivesValue result (comment_in self.old) }
     {
         let persistent = self.number()?;
         let author = self.text()?;
@@ -97,7 +99,7 @@ impl<'a> Fields<'a> {
     /// Takes the fields of an acknowledgement.
     #[tactic(auto, unfolding(crate::specs::Forms::acknowledgement_in))]
     pub(crate) fn acknowledgement(&mut self) -> Result<AcknowledgementFields, FieldErr>
-        ensures { Gives result (acknowledgement_in self.old) }
+        ensures { GivesValue result (acknowledgement_in self.old) }
     {
         let sticky = self.number()?;
         let notify = self.number()?;
@@ -112,7 +114,7 @@ impl<'a> Fields<'a> {
     /// Takes the fields of a downtime.
     #[tactic(auto, unfolding(crate::specs::Forms::downtime_in))]
     pub(crate) fn downtime(&mut self) -> Result<DowntimeFields, FieldErr>
-        ensures { Gives result (downtime_in self.old) }
+        ensures { GivesValue result (downtime_in self.old) }
     {
         let start = self.second()?;
         let end = self.second()?;
@@ -135,8 +137,8 @@ impl<'a> Fields<'a> {
 
 /// The largest code of a check's result: 0 to 2 are a host's states, 0 to 3 a service's. A larger
 /// one is faulty.
-fn most_code(kind: ObjectKind) -> u64
-    ensures { result ≡ most_code kind }
+fn most_code_of_kind(kind: ObjectKind) -> u64
+    ensures { result ≡ most_code_of_kind kind }
 {
     match kind {
         ObjectKind::Host => 2,

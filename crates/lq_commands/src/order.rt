@@ -1,6 +1,6 @@
 ghost use Rattle.std.specs.Prelude.{◌≡◌};
 ghost use Rattle.lq_commands.specs.Orders.{order_of};
-ghost use Rattle.lq_commands.specs.Reading.{Reads};
+ghost use Rattle.lq_commands.specs.Reading.{ReadsOrder};
 
 use crate::command::act_of;
 use lq_events::Act;
@@ -53,7 +53,7 @@ impl From<AllocError> for CommandErr {
 /// The errors are `NoTime`, exactly where the line doesn't begin with `[`, 1 to 12 digits and `]`,
 /// and `Memory`, out of memory.
 pub fn read_command(alloc: Global, base: &Base, line: &[u8]) -> Result<Order, CommandErr>
-    ensures { Reads result (order_of base.now line.now) }
+    ensures { ReadsOrder result (order_of base.now line.now) }
 {
     let Some((time, start)) = bracketed_second(line) else {
         return Err(CommandErr::NoTime);

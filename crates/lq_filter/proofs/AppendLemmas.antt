@@ -3,7 +3,7 @@ use Rattle.std.proofs.Common.{◌≡◌, ℕ, ◌+◌, ◌-◌, ◌<◌, ◌≤�
 use Rattle.std.proofs.Math.Seq.{get_or-append_right, take-append-add}
 use Rattle.std.proofs.lemmas.Bool.{cases_lt}
 use Rattle.std.proofs.lemmas.List.{drop-append-le, get_or_append_left, length-append, map-append, reverse-append, take-append-drop, take-append-le}
-use Rattle.lq_filter.specs.Linked.{AreLinked, AreStacked, IsTree, SizedHeader, headers_of, truths_before}
+use Rattle.lq_filter.specs.Linked.{AreLinkedTrees, AreStacked, IsTree, SizedHeader, headers_of_nodes, truths_before}
 use Rattle.lq_filter.specs.Trees.{HaveTrees, first_negated, height, tree_count, truths}
 use Rattle.lq_filter.specs.declared.header.Header.{Header}
 use Rattle.lq_filter.specs.declared.header.Header.TheVariants as header
@@ -48,30 +48,30 @@ have_earlier (header.Negate ∷ later) earlier have = have_earlier later earlier
 
 -- ---- headers with the sizes of their trees
 
-headers_both : (nodes more : List SizedHeader) → reverse (headers_of (nodes ++ more)) ≡ reverse (headers_of more) ++ reverse (headers_of nodes)
-headers_both nodes more = rw (map-append (λ (each : SizedHeader). each.header) nodes more, reverse-append (headers_of nodes) (headers_of more)) refl
+headers_both : (nodes more : List SizedHeader) → reverse (headers_of_nodes (nodes ++ more)) ≡ reverse (headers_of_nodes more) ++ reverse (headers_of_nodes nodes)
+headers_both nodes more = rw (map-append (λ (each : SizedHeader). each.header) nodes more, reverse-append (headers_of_nodes nodes) (headers_of_nodes more)) refl
 
-have_first : (more : List SizedHeader) (count : ℕ) → HaveTrees (reverse (headers_of more)) → HaveTrees (reverse (headers_of (take count more)))
+have_first : (more : List SizedHeader) (count : ℕ) → HaveTrees (reverse (headers_of_nodes more)) → HaveTrees (reverse (headers_of_nodes (take count more)))
 have_first more count have =
-    let parts : reverse (headers_of more) ≡ reverse (headers_of (drop count more)) ++ reverse (headers_of (take count more))
-    = ap (λ (nodes : List SizedHeader). reverse (headers_of nodes)) (sym (take-append-drop count more)) ∙ headers_both (take count more) (drop count more) in
-    have_earlier (reverse (headers_of (drop count more))) (reverse (headers_of (take count more))) (subst HaveTrees parts have)
+    let parts : reverse (headers_of_nodes more) ≡ reverse (headers_of_nodes (drop count more)) ++ reverse (headers_of_nodes (take count more))
+    = ap (λ (nodes : List SizedHeader). reverse (headers_of_nodes nodes)) (sym (take-append-drop count more)) ∙ headers_both (take count more) (drop count more) in
+    have_earlier (reverse (headers_of_nodes (drop count more))) (reverse (headers_of_nodes (take count more))) (subst HaveTrees parts have)
 
-module _ (nodes more : List SizedHeader) (have : HaveTrees (reverse (headers_of more))) where
+module _ (nodes more : List SizedHeader) (have : HaveTrees (reverse (headers_of_nodes more))) where
   truths_both : (truth : Test → Bool) (count : ℕ)
-      → truths_before truth (nodes ++ more) (length nodes + count) ≡ truths_before truth more count ++ truths truth (reverse (headers_of nodes))
+      → truths_before truth (nodes ++ more) (length nodes + count) ≡ truths_before truth more count ++ truths truth (reverse (headers_of_nodes nodes))
   truths_both truth count =
-      ap (λ (first : List SizedHeader). truths truth (reverse (headers_of first))) (take-append-add nodes more count)
+      ap (λ (first : List SizedHeader). truths truth (reverse (headers_of_nodes first))) (take-append-add nodes more count)
       ∙ ap (truths truth) (headers_both nodes (take count more))
-      ∙ truths-append truth (reverse (headers_of (take count more))) (reverse (headers_of nodes)) (have_first more count have)
+      ∙ truths-append truth (reverse (headers_of_nodes (take count more))) (reverse (headers_of_nodes nodes)) (have_first more count have)
 
   tree_behind : (count size : ℕ) → IsTree more count size → IsTree (nodes ++ more) (length nodes + count) size
   tree_behind count size is = record {
     some = is.some;
     within = omega (arith, is.within);
-    tree = λ truth. omega (arith, is.tree truth, ap length (truths_both truth count), length-append (truths_before truth more count) (truths truth (reverse (headers_of nodes))));
+    tree = λ truth. omega (arith, is.tree truth, ap length (truths_both truth count), length-append (truths_before truth more count) (truths truth (reverse (headers_of_nodes nodes))));
     earlier = λ truth.
-        let before : List Bool = truths truth (reverse (headers_of nodes)) in
+        let before : List Bool = truths truth (reverse (headers_of_nodes nodes)) in
         let place : length nodes + (count - size) ≡ length nodes + count - size = omega (arith, is.within) in
         ap (drop 1) (truths_both truth count)
         ∙ drop-append-le 1 (truths_before truth more count) before (omega (arith, is.tree truth))
@@ -80,7 +80,7 @@ module _ (nodes more : List SizedHeader) (have : HaveTrees (reverse (headers_of 
         ∙ ap (truths_before truth (nodes ++ more)) place;
   }
 
-  linked_both : AreLinked nodes → AreLinked more → AreLinked (nodes ++ more)
+  linked_both : AreLinkedTrees nodes → AreLinkedTrees more → AreLinkedTrees (nodes ++ more)
   linked_both first second = record {
     each = λ place other some within. elim (cases_lt (length nodes) place) [
       | inl behind ↦
@@ -97,9 +97,9 @@ module _ (nodes more : List SizedHeader) (have : HaveTrees (reverse (headers_of 
 pub stacked_both : (nodes more : List SizedHeader) (trees later : ℕ) → AreStacked nodes trees → AreStacked more later → AreStacked (nodes ++ more) (trees + later)
 stacked_both nodes more trees later first second = record {
   linked = linked_both nodes more second.trees_before first.linked second.linked;
-  count = omega (arith, first.count, second.count, ap tree_count (headers_both nodes more), tree_count-append (reverse (headers_of more)) (reverse (headers_of nodes)) second.trees_before);
-  trees_before = subst HaveTrees (sym (headers_both nodes more)) (HaveTrees-append (reverse (headers_of more)) (reverse (headers_of nodes)) second.trees_before first.trees_before);
+  count = omega (arith, first.count, second.count, ap tree_count (headers_both nodes more), tree_count-append (reverse (headers_of_nodes more)) (reverse (headers_of_nodes nodes)) second.trees_before);
+  trees_before = subst HaveTrees (sym (headers_both nodes more)) (HaveTrees-append (reverse (headers_of_nodes more)) (reverse (headers_of_nodes nodes)) second.trees_before first.trees_before);
 }
 
-pub height_both : (nodes more : List SizedHeader) → HaveTrees (reverse (headers_of more)) → height (headers_of (nodes ++ more)) ≡ height (headers_of nodes) + height (headers_of more)
-height_both nodes more have = omega (arith, ap tree_count (headers_both nodes more), tree_count-append (reverse (headers_of more)) (reverse (headers_of nodes)) have)
+pub height_both : (nodes more : List SizedHeader) → HaveTrees (reverse (headers_of_nodes more)) → height (headers_of_nodes (nodes ++ more)) ≡ height (headers_of_nodes nodes) + height (headers_of_nodes more)
+height_both nodes more have = omega (arith, ap tree_count (headers_both nodes more), tree_count-append (reverse (headers_of_nodes more)) (reverse (headers_of_nodes nodes)) have)

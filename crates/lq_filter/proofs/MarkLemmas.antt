@@ -5,7 +5,7 @@ use Rattle.std.proofs.lemmas.Bool.{cases_lt}
 use Rattle.std.proofs.lemmas.List.{get_or-map, get_or-set_other, get_or-set_same, get_or_default, length-map, nil_from_length, same_lists}
 use Rattle.lq_filter.specs.Linked.{IsTree, SizedHeader, truths_before}
 use Rattle.lq_filter.specs.Marks.{AreKept, AreKeptBefore, AreKeptBetween}
-use Rattle.lq_filter.specs.Trees.{joined}
+use Rattle.lq_filter.specs.Trees.{some_or_all}
 use Rattle.lq_filter.specs.declared.read.Test.{Test}
 
 -- ---- one test behind another
@@ -102,28 +102,28 @@ module _ (trees rest : List Bool) (count : ℕ) (some : 0 < count) (long : 0 < l
   taken : take count trees ≡ get_or trees 0 false ∷ take (count - 1) rest
   taken = rw (← left) (first_and_others trees count some long)
 
-  all_more : (joined false (take (count - 1) rest) && get_or trees 0 false) ≡ joined false (take count trees)
-  all_more = rw taken (and_comm (joined false (take (count - 1) rest)) (get_or trees 0 false))
+  all_more : (some_or_all false (take (count - 1) rest) && get_or trees 0 false) ≡ some_or_all false (take count trees)
+  all_more = rw taken (and_comm (some_or_all false (take (count - 1) rest)) (get_or trees 0 false))
 
-  any_more : (joined true (take (count - 1) rest) || get_or trees 0 false) ≡ joined true (take count trees)
-  any_more = rw taken (or_comm (joined true (take (count - 1) rest)) (get_or trees 0 false))
+  any_more : (some_or_all true (take (count - 1) rest) || get_or trees 0 false) ≡ some_or_all true (take count trees)
+  any_more = rw taken (or_comm (some_or_all true (take (count - 1) rest)) (get_or trees 0 false))
 
 -- the last trees before a place, as many as are joined: the earlier ones first, and then the last
 module _ {R : Type 0} (truth_of : R → Test → Bool) (rows : List R) (nodes : List SizedHeader) (end size count : ℕ) (some : 0 < count) (tree : IsTree nodes end size) where
-  pub all_kept : (old first new : List Bool) → AreKept (λ row. joined false (take (count - 1) (truths_before (truth_of row) nodes (end - size)))) rows old first
-      → AreKept (λ row. get_or (truths_before (truth_of row) nodes end) 0 false) rows first new → AreKept (λ row. joined false (take count (truths_before (truth_of row) nodes end))) rows old new
+  pub all_kept : (old first new : List Bool) → AreKept (λ row. some_or_all false (take (count - 1) (truths_before (truth_of row) nodes (end - size)))) rows old first
+      → AreKept (λ row. get_or (truths_before (truth_of row) nodes end) 0 false) rows first new → AreKept (λ row. some_or_all false (take count (truths_before (truth_of row) nodes end))) rows old new
   all_kept old first new before behind =
-      let earlier : R → Bool = λ row. joined false (take (count - 1) (truths_before (truth_of row) nodes (end - size))) in
+      let earlier : R → Bool = λ row. some_or_all false (take (count - 1) (truths_before (truth_of row) nodes (end - size))) in
       let last : R → Bool = λ row. get_or (truths_before (truth_of row) nodes end) 0 false in
       kept_same (λ row. earlier row && last row) rows _ old new
       (λ row. all_more (truths_before (truth_of row) nodes end) (truths_before (truth_of row) nodes (end - size)) count some (tree.tree (truth_of row)) (tree.earlier (truth_of row)))
       (kept_and earlier rows last old first new before behind)
 
-  pub any_kept : (old first left met new : List Bool) → length first ≡ length rows → AreKept (λ row. joined true (take (count - 1) (truths_before (truth_of row) nodes (end - size)))) rows old first
+  pub any_kept : (old first left met new : List Bool) → length first ≡ length rows → AreKept (λ row. some_or_all true (take (count - 1) (truths_before (truth_of row) nodes (end - size)))) rows old first
       → AreKept not first old left → AreKept (λ row. get_or (truths_before (truth_of row) nodes end) 0 false) rows left met
-      → ((place : ℕ) → get_or new place false ≡ (get_or first place false || get_or met place false)) → AreKept (λ row. joined true (take count (truths_before (truth_of row) nodes end))) rows old new
+      → ((place : ℕ) → get_or new place false ≡ (get_or first place false || get_or met place false)) → AreKept (λ row. some_or_all true (take count (truths_before (truth_of row) nodes end))) rows old new
   any_kept old first left met new long before rest behind is =
-      let earlier : R → Bool = λ row. joined true (take (count - 1) (truths_before (truth_of row) nodes (end - size))) in
+      let earlier : R → Bool = λ row. some_or_all true (take (count - 1) (truths_before (truth_of row) nodes (end - size))) in
       let last : R → Bool = λ row. get_or (truths_before (truth_of row) nodes end) 0 false in
       kept_same (λ row. earlier row || last row) rows _ old new
       (λ row. any_more (truths_before (truth_of row) nodes end) (truths_before (truth_of row) nodes (end - size)) count some (tree.tree (truth_of row)) (tree.earlier (truth_of row)))

@@ -12,7 +12,7 @@ use Rattle.regex_syntax.specs.Grammar.{Names, group_count, read}
 use Rattle.regex_syntax.specs.declared.error.ErrorKind.{ErrorKind}
 use Rattle.regex_syntax.specs.declared.error.ErrorKind.TheVariants.{OutOfMemory}
 use Rattle.lq_filter.specs.Compiled.{IsCompiled}
-use Rattle.lq_filter.specs.Patterns.{PatternText, is_found, is_matched_by, is_plain, options, pattern_of, pattern_text, tree_of, within_depth}
+use Rattle.lq_filter.specs.Patterns.{PatternText, is_found, is_matched_by, is_plain_pattern, options, pattern_of, pattern_text, tree_of, within_depth}
 
 -- what `Reads` says of what the grammar found
 abbrev IsRead : Option (Nested Re × Names) → Re → Names → Type 0
@@ -48,18 +48,18 @@ read_of folded regex is = rw is.config at is.read
 
 -- ---- what `build` answers
 
-pub is_pattern_of : (folded : Bool) (regex : Regex) → is_plain (regex_source regex) ≡ true → IsCompiled folded regex
+pub is_pattern_of : (folded : Bool) (regex : Regex) → is_plain_pattern (regex_source regex) ≡ true → IsCompiled folded regex
     → Some (pattern_text folded (regex_source regex)) ≡ pattern_of folded (regex_source regex)
 unfolding tree_of
 is_pattern_of folded regex plain is =
     let source = regex_source regex in
-    by_both (pattern_text folded source) (is_plain source) _ plain (some_tree (read (options folded) (chars source)) (regex_pattern regex) (regex_names regex) (read_of folded regex is))
+    by_both (pattern_text folded source) (is_plain_pattern source) _ plain (some_tree (read (options folded) (chars source)) (regex_pattern regex) (regex_names regex) (read_of folded regex is))
 
 pub no_pattern_of : (folded : Bool) (source : List ℕ) (kind : ErrorKind) → kind ≢ OutOfMemory → Refuses (options folded) source kind → None ≡ pattern_of folded source
 unfolding tree_of Refuses
 no_pattern_of folded source kind syntax (inl memory) = absurd (syntax memory)
-no_pattern_of folded source kind syntax (inr (inl none)) = by_tree (pattern_text folded source) (is_plain source) _ (no_tree (read (options folded) (chars source)) (inl none))
-no_pattern_of folded source kind syntax (inr (inr deep)) = by_tree (pattern_text folded source) (is_plain source) _ (no_tree (read (options folded) (chars source)) (inr deep.1))
+no_pattern_of folded source kind syntax (inr (inl none)) = by_tree (pattern_text folded source) (is_plain_pattern source) _ (no_tree (read (options folded) (chars source)) (inl none))
+no_pattern_of folded source kind syntax (inr (inr deep)) = by_tree (pattern_text folded source) (is_plain_pattern source) _ (no_tree (read (options folded) (chars source)) (inr deep.1))
 
 -- ---- what a search answers
 

@@ -2,7 +2,7 @@
 use Rattle.std.proofs.Common.{◌≡◌, ℕ, zero, suc, ◌-◌, ◌<◌, ◌≤◌, Bool, false, List, [], ◌∷◌, ◌++◌, length, take, drop, reverse, refl, sym, ap, ◌∙◌, arith, append_assoc}
 use Rattle.std.proofs.lemmas.List.{append-nil, drop_at, take_at}
 use Rattle.lq_filter.specs.Prefixes.{AreTrees, Tree, Trees, Tested, Joined, Negated, NoTree, Then, all_hold, count_of, prefix_of, prefixes_of, truth_of, truths_of}
-use Rattle.lq_filter.specs.Trees.{HaveTrees, holds, joined, tree_count, truths}
+use Rattle.lq_filter.specs.Trees.{HaveTrees, holds, some_or_all, tree_count, truths}
 use Rattle.lq_filter.specs.declared.header.Header.{Header}
 use Rattle.lq_filter.specs.declared.header.Header.TheVariants as header
 use Rattle.lq_filter.specs.declared.read.Test.{Test}
@@ -14,7 +14,7 @@ length-truths_of truth NoTree = refl
 length-truths_of truth (Then tree trees) = omega (arith, length-truths_of truth trees)
 
 first_joined : (any : Bool) (count : ℕ) (first rest : List Bool) → length first ≡ count
-    → joined any (take count (first ++ rest)) ∷ drop count (first ++ rest) ≡ joined any first ∷ rest
+    → some_or_all any (take count (first ++ rest)) ∷ drop count (first ++ rest) ≡ some_or_all any first ∷ rest
 first_joined any count first rest all = rw (take_at first rest count all, drop_at first rest count all) refl
 
 mutual
@@ -33,7 +33,7 @@ pub holds_trees : (truth : Test → Bool) (headers : List Header) (trees : Trees
 holds_trees truth headers trees are =
     let all : truths truth (prefixes_of trees) ≡ truths_of truth trees
     = ap (truths truth) (sym (append-nil (prefixes_of trees))) ∙ truths-prefixes_of truth trees [] ∙ append-nil (truths_of truth trees) in
-    ap (joined false) (ap (truths truth) are.same ∙ all)
+    ap (some_or_all false) (ap (truths truth) are.same ∙ all)
 
 -- ---- the trees of headers
 

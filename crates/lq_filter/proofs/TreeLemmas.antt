@@ -3,8 +3,8 @@ use Rattle.std.proofs.Common.{◌≡◌, ℕ, zero, suc, ◌+◌, ◌-◌, ◌<�
 use Rattle.std.proofs.Math.Logic.{⊎_elim}
 use Rattle.std.proofs.lemmas.Bool.{cases_Bool, cases_lt}
 use Rattle.std.proofs.lemmas.List.{drop-drop, get_or_append_left, get_or_at, length-append, length-map, length-reverse, map-append, reverse-append, take-append-le, take_all, take_more}
-use Rattle.lq_filter.specs.Linked.{AreLinked, AreStacked, IsTree, SizedHeader, headers_of, truths_before}
-use Rattle.lq_filter.specs.Trees.{HaveTrees, first_negated, has_pattern, height, holds, joined, pattern_count, tree_count, truths}
+use Rattle.lq_filter.specs.Linked.{AreLinkedTrees, AreStacked, IsTree, SizedHeader, headers_of_nodes, truths_before}
+use Rattle.lq_filter.specs.Trees.{HaveTrees, first_negated, has_pattern, height, holds, some_or_all, pattern_count, tree_count, truths}
 use Rattle.lq_filter.specs.declared.header.Header.{Header}
 use Rattle.lq_filter.specs.declared.header.Header.TheVariants as header
 use Rattle.lq_filter.specs.declared.header.Join.{Join}
@@ -28,26 +28,26 @@ length-truths truth (header.Negate ∷ earlier) = length-first_negated (truths t
 
 -- ---- one header more
 
-headers_more : (nodes : List SizedHeader) (node : SizedHeader) → reverse (headers_of (nodes ++ node ∷ [])) ≡ node.header ∷ reverse (headers_of nodes)
-headers_more nodes node = rw (map-append (λ (each : SizedHeader). each.header) nodes (node ∷ []), reverse-append (headers_of nodes) (node.header ∷ [])) refl
+headers_more : (nodes : List SizedHeader) (node : SizedHeader) → reverse (headers_of_nodes (nodes ++ node ∷ [])) ≡ node.header ∷ reverse (headers_of_nodes nodes)
+headers_more nodes node = rw (map-append (λ (each : SizedHeader). each.header) nodes (node ∷ []), reverse-append (headers_of_nodes nodes) (node.header ∷ [])) refl
 
-have_more : (nodes : List SizedHeader) (node : SizedHeader) → HaveTrees (node.header ∷ reverse (headers_of nodes)) → HaveTrees (reverse (headers_of (nodes ++ node ∷ [])))
+have_more : (nodes : List SizedHeader) (node : SizedHeader) → HaveTrees (node.header ∷ reverse (headers_of_nodes nodes)) → HaveTrees (reverse (headers_of_nodes (nodes ++ node ∷ [])))
 have_more nodes node have = subst HaveTrees (sym (headers_more nodes node)) have
 
-pub height_more : (nodes : List SizedHeader) (node : SizedHeader) → height (headers_of (nodes ++ node ∷ [])) ≡ tree_count (node.header ∷ reverse (headers_of nodes))
+pub height_more : (nodes : List SizedHeader) (node : SizedHeader) → height (headers_of_nodes (nodes ++ node ∷ [])) ≡ tree_count (node.header ∷ reverse (headers_of_nodes nodes))
 height_more nodes node = ap tree_count (headers_more nodes node)
 
 -- the truths up to a place, by the header before it
 pub truths_at : (truth : Test → Bool) (nodes : List SizedHeader) (place : ℕ) (node : SizedHeader) → 0 < place → place ≤ length nodes
-    → truths_before truth nodes place ≡ truths truth ((get_or nodes (place - 1) node).header ∷ reverse (headers_of (take (place - 1) nodes)))
+    → truths_before truth nodes place ≡ truths truth ((get_or nodes (place - 1) node).header ∷ reverse (headers_of_nodes (take (place - 1) nodes)))
 truths_at truth nodes place node some within =
     let next : place ≡ place - 1 + 1 = omega arith in
     let more : take place nodes ≡ take (place - 1) nodes ++ get_or nodes (place - 1) node ∷ [] = ap (λ n. take n nodes) next ∙ take_more nodes (place - 1) node (omega arith) in
-    ap (truths truth) (ap (λ (first : List SizedHeader). reverse (headers_of first)) more ∙ headers_more (take (place - 1) nodes) (get_or nodes (place - 1) node))
+    ap (truths truth) (ap (λ (first : List SizedHeader). reverse (headers_of_nodes first)) more ∙ headers_more (take (place - 1) nodes) (get_or nodes (place - 1) node))
 
 same_truths : (truth : Test → Bool) (nodes more : List SizedHeader) (place : ℕ) → place ≤ length nodes
     → truths_before truth (nodes ++ more) place ≡ truths_before truth nodes place
-same_truths truth nodes more place within = ap (λ (first : List SizedHeader). truths truth (reverse (headers_of first))) (take-append-le place nodes more within)
+same_truths truth nodes more place within = ap (λ (first : List SizedHeader). truths truth (reverse (headers_of_nodes first))) (take-append-le place nodes more within)
 
 pub same_tree : (nodes more : List SizedHeader) (place size : ℕ) → place ≤ length nodes → IsTree nodes place size → IsTree (nodes ++ more) place size
 same_tree nodes more place size within is = record {
@@ -61,14 +61,14 @@ same_tree nodes more place size within is = record {
 pub record IsNext (nodes : List SizedHeader) (node : SizedHeader) : Type 0 where
   pub some : 0 < node.size
   pub within : node.size ≤ length nodes + 1
-  pub tree : (truth : Test → Bool) → 0 < length (truths truth (node.header ∷ reverse (headers_of nodes)))
+  pub tree : (truth : Test → Bool) → 0 < length (truths truth (node.header ∷ reverse (headers_of_nodes nodes)))
   pub earlier : (truth : Test → Bool) →
-      drop 1 (truths truth (node.header ∷ reverse (headers_of nodes))) ≡ truths_before truth nodes (length nodes + 1 - node.size)
+      drop 1 (truths truth (node.header ∷ reverse (headers_of_nodes nodes))) ≡ truths_before truth nodes (length nodes + 1 - node.size)
 
 next_tree : (nodes : List SizedHeader) (node : SizedHeader) → IsNext nodes node → IsTree (nodes ++ node ∷ []) (length nodes + 1) node.size
 next_tree nodes node next =
     let whole : take (length nodes + 1) (nodes ++ node ∷ []) ≡ nodes ++ node ∷ [] = take_all (length nodes + 1) (nodes ++ node ∷ []) (omega (arith, length-append nodes (node ∷ []))) in
-    let last = λ (truth : Test → Bool). let same : truths_before truth (nodes ++ node ∷ []) (length nodes + 1) ≡ truths truth (node.header ∷ reverse (headers_of nodes)) = ap (λ (first : List SizedHeader). truths truth (reverse (headers_of first))) whole ∙ ap (truths truth) (headers_more nodes node) in same in
+    let last = λ (truth : Test → Bool). let same : truths_before truth (nodes ++ node ∷ []) (length nodes + 1) ≡ truths truth (node.header ∷ reverse (headers_of_nodes nodes)) = ap (λ (first : List SizedHeader). truths truth (reverse (headers_of_nodes first))) whole ∙ ap (truths truth) (headers_more nodes node) in same in
     record {
       some = next.some;
       within = next.within;
@@ -76,7 +76,7 @@ next_tree nodes node next =
       earlier = λ truth. rw (last truth, same_truths truth nodes (node ∷ []) (length nodes + 1 - node.size) (omega (arith, next.some))) (next.earlier truth);
     }
 
-pub AreLinked-more : (nodes : List SizedHeader) (node : SizedHeader) → AreLinked nodes → IsNext nodes node → AreLinked (nodes ++ node ∷ [])
+pub AreLinked-more : (nodes : List SizedHeader) (node : SizedHeader) → AreLinkedTrees nodes → IsNext nodes node → AreLinkedTrees (nodes ++ node ∷ [])
 AreLinked-more nodes node linked next = record {
   each = λ place other some within. elim (cases_lt (length nodes) place) [
     | inl behind ↦
@@ -89,8 +89,8 @@ AreLinked-more nodes node linked next = record {
 -- ---- by header
 
 -- all headers
-pub whole_truths : (truth : Test → Bool) (nodes : List SizedHeader) → truths_before truth nodes (length nodes) ≡ truths truth (reverse (headers_of nodes))
-whole_truths truth nodes = ap (λ (first : List SizedHeader). truths truth (reverse (headers_of first))) (take_all (length nodes) nodes (omega arith))
+pub whole_truths : (truth : Test → Bool) (nodes : List SizedHeader) → truths_before truth nodes (length nodes) ≡ truths truth (reverse (headers_of_nodes nodes))
+whole_truths truth nodes = ap (λ (first : List SizedHeader). truths truth (reverse (headers_of_nodes first))) (take_all (length nodes) nodes (omega arith))
 
 -- the last trees begin at a place
 abbrev BeginAt : List SizedHeader → ℕ → ℕ → Type 0
@@ -116,13 +116,13 @@ next_join nodes join start within begin = record {
   earlier = λ truth. ap (drop join.count) (sym (whole_truths truth nodes)) ∙ begin truth ∙ ap (truths_before truth nodes) (place_behind nodes start within);
 }
 
-next_negate : (nodes : List SizedHeader) (start : ℕ) → start ≤ length nodes → 0 < height (headers_of nodes) → BeginAt nodes 1 start
+next_negate : (nodes : List SizedHeader) (start : ℕ) → start ≤ length nodes → 0 < height (headers_of_nodes nodes) → BeginAt nodes 1 start
     → IsNext nodes (record { header = header.Negate; size = length nodes - start + 1 })
 next_negate nodes start within enough begin = record {
   some = omega arith;
   within = omega arith;
-  tree = λ truth. omega (arith, enough, length-first_negated (truths truth (reverse (headers_of nodes))), length-truths truth (reverse (headers_of nodes)));
-  earlier = λ truth. drop-first_negated (truths truth (reverse (headers_of nodes))) ∙ ap (drop 1) (sym (whole_truths truth nodes)) ∙ begin truth ∙ ap (truths_before truth nodes) (place_behind nodes start within);
+  tree = λ truth. omega (arith, enough, length-first_negated (truths truth (reverse (headers_of_nodes nodes))), length-truths truth (reverse (headers_of_nodes nodes)));
+  earlier = λ truth. drop-first_negated (truths truth (reverse (headers_of_nodes nodes))) ∙ ap (drop 1) (sym (whole_truths truth nodes)) ∙ begin truth ∙ ap (truths_before truth nodes) (place_behind nodes start within);
 }
 
 pub stacked_test : (nodes : List SizedHeader) (trees : ℕ) (test : Test) → AreStacked nodes trees
@@ -152,11 +152,11 @@ stacked_negate nodes trees start is some within begin = record {
 -- ---- where trees begin
 
 -- before the first tree no tree is left
-pub begun : (nodes : List SizedHeader) (count taken start : ℕ) → count ≤ height (headers_of nodes) → taken < count → BeginAt nodes taken start → 0 < start
+pub begun : (nodes : List SizedHeader) (count taken start : ℕ) → count ≤ height (headers_of_nodes nodes) → taken < count → BeginAt nodes taken start → 0 < start
 begun nodes count taken zero enough low begin =
     let always : Test → Bool = λ _. true in
     let left : length (drop taken (truths_before always nodes (length nodes))) ≡ 0 = ap length (begin always) in
-    let all : length (truths_before always nodes (length nodes)) ≡ height (headers_of nodes) = ap length (whole_truths always nodes) ∙ length-truths always (reverse (headers_of nodes)) in
+    let all : length (truths_before always nodes (length nodes)) ≡ height (headers_of_nodes nodes) = ap length (whole_truths always nodes) ∙ length-truths always (reverse (headers_of_nodes nodes)) in
     absurd (omega (arith, left, all, length-drop taken (truths_before always nodes (length nodes))))
 begun nodes count taken (suc start) enough low begin = omega arith
 
@@ -170,20 +170,20 @@ count_within (header.Test test ∷ earlier) = omega (arith, count_within earlier
 count_within (header.Join join ∷ earlier) = omega (arith, count_within earlier)
 count_within (header.Negate ∷ earlier) = omega (arith, count_within earlier)
 
-pub height_within : (nodes : List SizedHeader) → height (headers_of nodes) ≤ length nodes
-height_within nodes = omega (arith, count_within (reverse (headers_of nodes)), length-reverse (headers_of nodes), length-map nodes (λ (node : SizedHeader). node.header))
+pub height_within : (nodes : List SizedHeader) → height (headers_of_nodes nodes) ≤ length nodes
+height_within nodes = omega (arith, count_within (reverse (headers_of_nodes nodes)), length-reverse (headers_of_nodes nodes), length-map nodes (λ (node : SizedHeader). node.header))
 
 -- the trees of all headers, joined by and
 pub all_trees : (truth : Test → Bool) (nodes : List SizedHeader)
-    → joined false (take (length nodes) (truths_before truth nodes (length nodes))) ≡ holds truth (headers_of nodes)
+    → some_or_all false (take (length nodes) (truths_before truth nodes (length nodes))) ≡ holds truth (headers_of_nodes nodes)
 all_trees truth nodes =
     let few : length (truths_before truth nodes (length nodes)) ≤ length nodes
-    = omega (arith, ap length (whole_truths truth nodes), length-truths truth (reverse (headers_of nodes)), height_within nodes) in
-    ap (joined false) (take_all (length nodes) (truths_before truth nodes (length nodes)) few ∙ whole_truths truth nodes)
+    = omega (arith, ap length (whole_truths truth nodes), length-truths truth (reverse (headers_of_nodes nodes)), height_within nodes) in
+    ap (some_or_all false) (take_all (length nodes) (truths_before truth nodes (length nodes)) few ∙ whole_truths truth nodes)
 
 -- ---- patterns
 
-pub pattern_nodes : (nodes : List SizedHeader) → length (filter (λ node. has_pattern node.header) nodes) ≡ pattern_count (headers_of nodes)
+pub pattern_nodes : (nodes : List SizedHeader) → length (filter (λ node. has_pattern node.header) nodes) ≡ pattern_count (headers_of_nodes nodes)
 pattern_nodes [] = refl
 pattern_nodes (node ∷ nodes) = ⊎_elim
     (λ (is : has_pattern node.header ≡ true). rw is (ap suc (pattern_nodes nodes)))

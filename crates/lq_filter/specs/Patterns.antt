@@ -1,5 +1,6 @@
 -- Patterns: which texts are patterns, and in which texts a pattern is found.
-use Rattle.std.specs.Prelude.{ℕ, ◌==◌, ◌&&◌, nat_le, Bool, false, not, Option, Some, None, is_some, List, length, chars, if◌then◌else◌}
+use Rattle.std.specs.Prelude.{ℕ, ◌==◌, ◌&&◌, nat_le, Bool, false, not, Option, Some, None, is_some}
+use Rattle.std.specs.Prelude.{List, length, chars, if◌then◌else◌}
 use Rattle.std.specs.List.{list_any}
 use Rattle.regex.specs.Patterns.{Config, Re, default_config, find_str}
 use Rattle.regex_syntax.specs.Brackets.{Nested}
@@ -25,11 +26,11 @@ unfoldable pub tree_of : PatternText → Option Re
 tree_of pattern = within_depth (read (options pattern.folded) (chars pattern.source))
 
 -- at most 200 bytes, and no `{`, which is 123
-abbrev pub is_plain : List ℕ → Bool
-is_plain source = nat_le (length source) 200 && not (list_any (λ byte. byte == 123) source)
+abbrev pub is_plain_pattern : List ℕ → Bool
+is_plain_pattern source = nat_le (length source) 200 && not (list_any (λ byte. byte == 123) source)
 
 abbrev pub is_pattern : PatternText → Bool
-is_pattern pattern = is_plain pattern.source && is_some (tree_of pattern)
+is_pattern pattern = is_plain_pattern pattern.source && is_some (tree_of pattern)
 
 abbrev pub pattern_text : Bool → List ℕ → PatternText
 pattern_text folded source = record { folded = folded; source = source }

@@ -1,6 +1,6 @@
 -- Trees of tests, and their prefix expressions: what `And`, `Or` and `Negate` make of filters.
 use Rattle.std.specs.Prelude.{◌≡◌, ◌+◌, ℕ, Bool, false, not, List, [], ◌∷◌, ◌++◌, reverse}
-use Rattle.lq_filter.specs.Trees.{joined}
+use Rattle.lq_filter.specs.Trees.{some_or_all}
 use Rattle.lq_filter.specs.declared.header.Header.{Header}
 use Rattle.lq_filter.specs.declared.header.Header.TheVariants as header
 use Rattle.lq_filter.specs.declared.read.Test.{Test}
@@ -24,7 +24,7 @@ count_of (Then tree trees) = 1 + count_of trees
 abbrev mutual
   pub truth_of : (Test → Bool) → Tree → Bool
   truth_of truth (Tested test) = truth test
-  truth_of truth (Joined any trees) = joined any (truths_of truth trees)
+  truth_of truth (Joined any trees) = some_or_all any (truths_of truth trees)
   truth_of truth (Negated tree) = not (truth_of truth tree)
 
   pub truths_of : (Test → Bool) → Trees → List Bool
@@ -49,4 +49,4 @@ pub record AreTrees (headers : List Header) (trees : Trees) : Type 0 where
 
 -- whether all trees hold; without a tree that is so
 abbrev pub all_hold : (Test → Bool) → Trees → Bool
-all_hold truth trees = joined false (truths_of truth trees)
+all_hold truth trees = some_or_all false (truths_of truth trees)

@@ -6,10 +6,10 @@ use Rattle.lq_filter.specs.declared.ready.ReadyHeader.{ReadyHeader}
 use Rattle.lq_filter.specs.declared.ready.ReadyHeader.TheVariants as ready
 use Rattle.lq_filter.specs.declared.ready_test.ReadyTest.{ReadyTest}
 
-abbrev pub test_of : ReadyTest → Test
-test_of test = record { column = test.column; check = test.check }
+abbrev pub test_of_ready : ReadyTest → Test
+test_of_ready test = record { column = test.column; check = test.check }
 
 abbrev pub header_of : ReadyHeader → Header
-header_of (ready.Test test) = header.Test (test_of test)
+header_of (ready.Test test) = header.Test (test_of_ready test)
 header_of (ready.Join join) = header.Join join
 header_of ready.Negate = header.Negate

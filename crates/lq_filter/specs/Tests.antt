@@ -1,5 +1,6 @@
 -- What a test asks of the value of a cell.
-use Rattle.std.specs.Prelude.{ℕ, ℤ, ◌++◌, ◌∷◌, Bool, true, false, not, List, length, map, ◌==◌, bytes_eq, int_lt, if◌then◌else◌}
+use Rattle.std.specs.Prelude.{ℕ, ℤ, ◌++◌, ◌∷◌, Bool, true, false, not, List, length, map, ◌==◌}
+use Rattle.std.specs.Prelude.{bytes_eq, int_lt, if◌then◌else◌}
 use Rattle.std.specs.Cmp.Lexicographic.{slice_cmp}
 use Rattle.std.specs.Fmt.{decimal}
 use Rattle.std.specs.List.{list_any}
@@ -53,8 +54,8 @@ list_has (Compares comparison) elements = list_compares comparison elements
 list_has (Matches pattern) elements = list_any (is_found pattern) elements
 
 -- a service as an element: its host's name and its description with `|`, which is 124, between them
-abbrev pub pair_text : List ℕ × List ℕ → List ℕ
-pair_text pair = pair.0 ++ 124 ∷ pair.1
+abbrev pub pair_element : List ℕ × List ℕ → List ℕ
+pair_element pair = pair.0 ++ 124 ∷ pair.1
 
 -- An element of a list of numbers is its decimal text. No cell has a number in millionths.
 abbrev pub has_property : Property → Value → Bool
@@ -63,7 +64,7 @@ has_property property (Millionths number) = false
 has_property property (Words text) = text_has property text
 has_property property (Texts texts) = list_has property texts
 has_property property (Numbers numbers) = list_has property (map decimal numbers)
-has_property property (Pairs pairs) = list_has property (map pair_text pairs)
+has_property property (Pairs pairs) = list_has property (map pair_element pairs)
 
 abbrev pub negated_if : Bool → Bool → Bool
 negated_if negated test = if negated then not test else test

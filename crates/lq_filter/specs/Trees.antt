@@ -2,7 +2,8 @@
 --
 -- Headers are read from the last one back to the first. A test is a tree by itself. `And` and `Or`
 -- are followed by the trees that they join, and `Negate` by the one that it negates.
-use Rattle.std.specs.Prelude.{ℕ, ◌+◌, ◌-◌, ◌<◌, ◌≤◌, Bool, true, false, not, Option, None, Some, List, [], ◌∷◌, drop, filter, length, reverse, take}
+use Rattle.std.specs.Prelude.{ℕ, ◌+◌, ◌-◌, ◌<◌, ◌≤◌, Bool, true, false, not, Option, None, Some}
+use Rattle.std.specs.Prelude.{List, [], ◌∷◌, drop, filter, length, reverse, take}
 use Rattle.std.specs.List.{list_all, list_any}
 use Rattle.lq_schema.specs.Value.{Value}
 use Rattle.lq_schema.specs.declared.columns.Col.{Col}
@@ -13,9 +14,9 @@ use Rattle.lq_filter.specs.declared.header.Join.{Join}
 use Rattle.lq_filter.specs.declared.read.Test.{Test}
 
 -- whether some of the truths holds, or all do
-abbrev pub joined : Bool → List Bool → Bool
-joined true truths = list_any (λ truth. truth) truths
-joined false truths = list_all (λ truth. truth) truths
+abbrev pub some_or_all : Bool → List Bool → Bool
+some_or_all true truths = list_any (λ truth. truth) truths
+some_or_all false truths = list_all (λ truth. truth) truths
 
 abbrev pub first_negated : List Bool → List Bool
 first_negated [] = []
@@ -27,7 +28,7 @@ abbrev pub truths : (Test → Bool) → List Header → List Bool
 truths truth [] = []
 truths truth (header.Test test ∷ earlier) = truth test ∷ truths truth earlier
 truths truth (header.Join join ∷ earlier) =
-    joined join.any (take join.count (truths truth earlier))
+    some_or_all join.any (take join.count (truths truth earlier))
     ∷ drop join.count (truths truth earlier)
 truths truth (header.Negate ∷ earlier) = first_negated (truths truth earlier)
 
@@ -52,7 +53,7 @@ HaveTrees (header.Negate ∷ earlier) = (0 < tree_count earlier) × HaveTrees ea
 
 -- whether all trees hold; the headers are in the order of their lines
 abbrev pub holds : (Test → Bool) → List Header → Bool
-holds truth headers = joined false (truths truth (reverse headers))
+holds truth headers = some_or_all false (truths truth (reverse headers))
 
 -- the truth of a test on a row, which has a value for each column
 abbrev pub truth_on : (Col → Value) → Test → Bool

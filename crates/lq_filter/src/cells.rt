@@ -1,6 +1,6 @@
 ghost use Rattle.std.specs.Prelude.{◌≡◌, ℕ, IfOk, IfSome, List, bytes_eq};
 ghost use Rattle.std.specs.List.{list_any};
-ghost use Rattle.lq_schema.specs.Value.{Number, Texts, Value, Words, shown};
+ghost use Rattle.lq_schema.specs.Value.{Number, Texts, Value, Words, meaning_of};
 ghost use Rattle.lq_schema.specs.declared.columns.Col.{Col};
 
 use lq_records::Memory;
@@ -18,7 +18,7 @@ pub trait Cells {
     /// The value of a column. The only error is out of memory.
     fn get(&self, alloc: Global, c: Col) -> Result<Val<'_>, Memory>
         requires { has self.now c }
-        ensures { IfOk result (λ value. shown value ≡ cell self.now c) };
+        ensures { IfOk result (λ value. meaning_of value ≡ cell self.now c) };
 
     /// The number in a column, where it is found without memory. It may be None for any column.
     fn number(&self, c: Col) -> Option<i128>

@@ -1,5 +1,5 @@
 ghost use Rattle.std.specs.Prelude.{◌≡◌, ◌==◌, [], All, IfOk, length};
-ghost use Rattle.lq_filter.specs.Linked.{AreLinked, headers_of};
+ghost use Rattle.lq_filter.specs.Linked.{AreLinkedTrees, headers_of_nodes};
 ghost use Rattle.lq_filter.specs.Prefixes.{AreTrees, Trees, all_hold};
 ghost use Rattle.lq_filter.specs.Trees.{HasColumn, holds, truth_on};
 
@@ -18,20 +18,20 @@ pub struct Filter {
 
 impl Model for Filter {
     ghost use Rattle.std.specs.Prelude.{List};
-    ghost use Rattle.lq_filter.specs.Linked.{AreLinked, headers_of};
+    ghost use Rattle.lq_filter.specs.Linked.{AreLinkedTrees, headers_of_nodes};
     ghost use Rattle.lq_filter.specs.declared.header.Header.{Header};
 
     ghost Value = { List Header };
 
-    ghost view = { λ filter. headers_of filter.nodes.items };
+    ghost view = { λ filter. headers_of_nodes filter.nodes.items };
 
-    ghost invariant = { λ filter. AreLinked filter.nodes.items };
+    ghost invariant = { λ filter. AreLinkedTrees filter.nodes.items };
 }
 
 impl Filter {
     pub(crate) fn new(nodes: Vec<Node>) -> Self
-        requires { AreLinked nodes.items }
-        ensures { result ≡ headers_of nodes.items }
+        requires { AreLinkedTrees nodes.items }
+        ensures { result ≡ headers_of_nodes nodes.items }
     {
         Filter { nodes }
     }

@@ -1,8 +1,9 @@
-ghost use Rattle.std.specs.Prelude.{◌≡◌, ◌||◌, ◌<◌, ◌≤◌, ℕ, All, OnOk, false, length, not, slice_index_or, take, true};
+ghost use Rattle.std.specs.Prelude.{◌≡◌, ◌||◌, ◌<◌, ◌≤◌, ℕ, All, OnOk, false, length, not};
+ghost use Rattle.std.specs.Prelude.{slice_index_or, take, true};
 ghost use Rattle.std.specs.List.{list_any};
-ghost use Rattle.lq_filter.specs.Linked.{AreLinked, headers_of, truths_before};
+ghost use Rattle.lq_filter.specs.Linked.{AreLinkedTrees, headers_of_nodes, truths_before};
 ghost use Rattle.lq_filter.specs.Marks.{AreKept};
-ghost use Rattle.lq_filter.specs.Trees.{HasColumn, joined, truth_on};
+ghost use Rattle.lq_filter.specs.Trees.{HasColumn, some_or_all, truth_on};
 
 use crate::ready::Step;
 use crate::scan::{Scan, ScannedRow};
@@ -52,14 +53,14 @@ pub(crate) fn keep_all<S: Scan>(
     trees: LastTrees,
     marks: &mut [bool],
 ) -> Result<(), Memory>
-    requires linked { AreLinked steps.old }
+    requires linked { AreLinkedTrees steps.old }
     requires within { trees.end ≤ length steps.old }
     requires columns { All
-        (λ row. All (HasColumn (S.has block.now.scan.now row)) (headers_of steps.old))
+        (λ row. All (HasColumn (S.has block.now.scan.now row)) (headers_of_nodes steps.old))
         block.now.rows.now }
     requires marked { length marks.old ≡ length block.now.rows.now }
     ensures kept { OnOk result (AreKept
-        (λ row. joined false
+        (λ row. some_or_all false
         (take trees.count
         (truths_before (truth_on (S.cell block.now.scan.now row)) steps.old trees.end)))
         block.now.rows.now marks.old marks.new) }
@@ -85,14 +86,14 @@ fn keep_any<S: Scan>(
     trees: LastTrees,
     marks: &mut [bool],
 ) -> Result<(), Memory>
-    requires linked { AreLinked steps.old }
+    requires linked { AreLinkedTrees steps.old }
     requires within { trees.end ≤ length steps.old }
     requires columns { All
-        (λ row. All (HasColumn (S.has block.now.scan.now row)) (headers_of steps.old))
+        (λ row. All (HasColumn (S.has block.now.scan.now row)) (headers_of_nodes steps.old))
         block.now.rows.now }
     requires marked { length marks.old ≡ length block.now.rows.now }
     ensures kept { OnOk result (AreKept
-        (λ row. joined true
+        (λ row. some_or_all true
         (take trees.count
         (truths_before (truth_on (S.cell block.now.scan.now row)) steps.old trees.end)))
         block.now.rows.now marks.old marks.new) }
@@ -123,11 +124,11 @@ fn keep_tree<S: Scan>(
     place: usize,
     marks: &mut [bool],
 ) -> Result<(), Memory>
-    requires linked { AreLinked steps.old }
+    requires linked { AreLinkedTrees steps.old }
     requires some { 0 < place }
     requires within { place ≤ length steps.old }
     requires columns { All
-        (λ row. All (HasColumn (S.has block.now.scan.now row)) (headers_of steps.old))
+        (λ row. All (HasColumn (S.has block.now.scan.now row)) (headers_of_nodes steps.old))
         block.now.rows.now }
     requires marked { length marks.old ≡ length block.now.rows.now }
     ensures kept { OnOk result (AreKept

@@ -1,6 +1,6 @@
 ghost use Rattle.std.specs.Prelude.{◌≡◌, ◌==◌, true, IfOk};
 ghost use Rattle.std.specs.List.{list_any};
-ghost use Rattle.lq_filter.specs.Patterns.{is_found, is_plain, pattern_of, pattern_text};
+ghost use Rattle.lq_filter.specs.Patterns.{is_found, is_plain_pattern, pattern_of, pattern_text};
 
 use lq_records::Memory;
 use regex::{Error, Matcher, Regex, RegexBuilder};
@@ -39,10 +39,10 @@ impl Pattern {
     pub fn new(alloc: Global, source: &str, folded: bool) -> Result<Option<Self>, Memory>
         ensures { IfOk result (λ pattern. pattern ≡ pattern_of folded source.now) }
     {
-        if !is_plain(source) {
+        if !is_plain_pattern(source) {
             return Ok(None);
         }
-        compiled(alloc, source, folded)
+        compile(alloc, source, folded)
     }
 
     /// The pattern with a matcher of its own, which searches one text after the other. The only
@@ -59,8 +59,8 @@ impl Pattern {
 }
 
 /// Whether a text is within the limits of a pattern.
-fn is_plain(source: &str) -> bool
-    ensures { result ≡ is_plain source.now }
+fn is_plain_pattern(source: &str) -> bool
+    ensures { result ≡ is_plain_pattern source.now }
 {
     source.len() <= MOST_BYTES && !has_brace(source.as_bytes())
 }
@@ -72,8 +72,8 @@ fn has_brace(source: &[u8]) -> bool
 }
 
 /// The pattern of a text that is within the limits.
-fn compiled(alloc: Global, source: &str, folded: bool) -> Result<Option<Pattern>, Memory>
-    requires { is_plain source.now ≡ true }
+fn compile(alloc: Global, source: &str, folded: bool) -> Result<Option<Pattern>, Memory>
+    requires { is_plain_pattern source.now ≡ true }
     ensures { IfOk result (λ pattern. pattern ≡ pattern_of folded source.now) }
 {
     match RegexBuilder::new(source)

@@ -1,5 +1,7 @@
 ghost use Rattle.std.specs.Prelude.{◌≡◌};
-ghost use Rattle.lq_filter.specs.Reading.{Gives, containment, emptiness, kind_check, list_check, nocase_comparison, number_check, number_comparison, pattern_match, test_read, text_check, text_comparison};
+ghost use Rattle.lq_filter.specs.Reading.{Gives, containment, emptiness, kind_check, list_check};
+ghost use Rattle.lq_filter.specs.Reading.{nocase_comparison, number_check, number_comparison};
+ghost use Rattle.lq_filter.specs.Reading.{pattern_match, test_read, text_check, text_comparison};
 ghost use Rattle.lq_filter.specs.Tests.{asks_for_pattern};
 
 use crate::check::{Check, Comparison, Property};

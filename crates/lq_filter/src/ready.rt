@@ -1,8 +1,9 @@
 ghost use Rattle.std.specs.Prelude.{◌≡◌, ◌∷◌, [], ◌<◌, ◌≤◌, All, IfOk, OnOk, length, map, take};
-ghost use Rattle.lq_filter.specs.Linked.{AreLinked, headers_of, truths_before};
+ghost use Rattle.lq_filter.specs.Linked.{AreLinkedTrees, headers_of_nodes, truths_before};
 ghost use Rattle.lq_filter.specs.Marks.{AreKept};
 ghost use Rattle.lq_filter.specs.ReadyHeaders.{header_of};
-ghost use Rattle.lq_filter.specs.Trees.{HasColumn, holds, is_negation, join_of, joined, truth_on};
+ghost use Rattle.lq_filter.specs.Trees.{HasColumn, holds, is_negation, join_of, some_or_all};
+ghost use Rattle.lq_filter.specs.Trees.{truth_on};
 ghost use Rattle.lq_filter.specs.declared.header.Header.TheVariants as header;
 ghost use Rattle.lq_filter.specs.declared.read.Test.{Test};
 
@@ -59,14 +60,14 @@ impl Drop for ReadyFilter<'_> {
 
 impl<'f> Model for ReadyFilter<'f> {
     ghost use Rattle.std.specs.Prelude.{List};
-    ghost use Rattle.lq_filter.specs.Linked.{AreLinked, headers_of};
+    ghost use Rattle.lq_filter.specs.Linked.{AreLinkedTrees, headers_of_nodes};
     ghost use Rattle.lq_filter.specs.declared.header.Header.{Header};
 
     ghost Value = { List Header };
 
-    ghost view = { λ ready. headers_of ready.steps.items };
+    ghost view = { λ ready. headers_of_nodes ready.steps.items };
 
-    ghost invariant = { λ ready. AreLinked ready.steps.items };
+    ghost invariant = { λ ready. AreLinkedTrees ready.steps.items };
 }
 
 /// The cells of a row that is tested, and the allocator for what their values take.
@@ -115,8 +116,8 @@ impl ReadyFilter<'_> {
 
 /// The nodes of a filter made ready.
 pub(crate) fn ready_filter(alloc: Global, nodes: &[Node]) -> Result<ReadyFilter<'_>, Memory>
-    requires { AreLinked nodes.now }
-    ensures { IfOk result (λ ready. ready ≡ headers_of nodes.now) }
+    requires { AreLinkedTrees nodes.now }
+    ensures { IfOk result (λ ready. ready ≡ headers_of_nodes nodes.now) }
 {
     Ok(ReadyFilter {
         steps: steps_of(alloc, nodes)?,
@@ -159,10 +160,10 @@ fn joined_at<C: Cells>(
     place: usize,
     join: Join,
 ) -> Result<bool, Memory>
-    requires linked { AreLinked steps.old }
+    requires linked { AreLinkedTrees steps.old }
     requires within { place ≤ length steps.old }
-    requires columns { All (HasColumn (C.has row.now.cells.now)) (headers_of steps.old) }
-    ensures value { IfOk result (λ truth. truth ≡ joined join.any
+    requires columns { All (HasColumn (C.has row.now.cells.now)) (headers_of_nodes steps.old) }
+    ensures value { IfOk result (λ truth. truth ≡ some_or_all join.any
         (take join.count (truths_before (truth_on (C.cell row.now.cells.now)) steps.old place))) }
     ensures same { steps.new ≡ steps.old }
 {
@@ -187,10 +188,10 @@ fn truth_at<C: Cells>(
     steps: &mut [Step<'_>],
     place: usize,
 ) -> Result<bool, Memory>
-    requires linked { AreLinked steps.old }
+    requires linked { AreLinkedTrees steps.old }
     requires some { 0 < place }
     requires within { place ≤ length steps.old }
-    requires columns { All (HasColumn (C.has row.now.cells.now)) (headers_of steps.old) }
+    requires columns { All (HasColumn (C.has row.now.cells.now)) (headers_of_nodes steps.old) }
     ensures value { IfOk result (λ truth. take 1
         (truths_before (truth_on (C.cell row.now.cells.now)) steps.old place) ≡ truth ∷ []) }
     ensures same { steps.new ≡ steps.old }

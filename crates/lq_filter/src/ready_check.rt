@@ -3,10 +3,12 @@ ghost use Rattle.std.specs.Fmt.{decimal};
 ghost use Rattle.std.specs.List.{list_any};
 ghost use Rattle.std.specs.Option.{IsSome};
 ghost use Rattle.std.specs.declared.cmp.Ordering.TheVariants.{Equal};
-ghost use Rattle.lq_schema.specs.Value.{Number, Words, shown};
+ghost use Rattle.lq_schema.specs.Value.{Number, Words, meaning_of};
 ghost use Rattle.lq_filter.specs.Patterns.{is_found};
-ghost use Rattle.lq_filter.specs.Ready.{check_of_element, check_of_number, check_of_text, property_of};
-ghost use Rattle.lq_filter.specs.Tests.{has_property, is_met, is_of_number, list_has, negated_if, number_has, pair_text, text_has};
+ghost use Rattle.lq_filter.specs.Ready.{check_of_element, check_of_number, check_of_text};
+ghost use Rattle.lq_filter.specs.Ready.{property_of};
+ghost use Rattle.lq_filter.specs.Tests.{has_property, is_met, is_of_number, list_has, negated_if};
+ghost use Rattle.lq_filter.specs.Tests.{number_has, pair_element, text_has};
 ghost use Rattle.lq_filter.specs.declared.check.Comparison.TheVariants as by;
 ghost use Rattle.lq_filter.specs.declared.check.Property.TheVariants.{Compares};
 
@@ -75,7 +77,7 @@ impl<'c> ReadyCheck<'c> {
     /// Whether a value is as the check asks. The only error is out of memory, which a list of
     /// numbers or of services may want.
     pub fn is_met(&mut self, alloc: Global, value: &Val<'_>) -> Result<bool, Memory>
-        ensures met { IfOk result (λ met. met ≡ is_met self.old (shown value.now)) }
+        ensures met { IfOk result (λ met. met ≡ is_met self.old (meaning_of value.now)) }
         ensures same { self.new ≡ self.old }
     {
         let holds = self.property.holds_for(alloc, value)?;
@@ -181,7 +183,7 @@ impl ReadyProperty<'_> {
     /// Whether a value has the property.
     fn holds_for(&mut self, alloc: Global, value: &Val<'_>) -> Result<bool, Memory>
         ensures holds { IfOk result
-            (λ holds. holds ≡ has_property (property_of self.old) (shown value.now)) }
+            (λ holds. holds ≡ has_property (property_of self.old) (meaning_of value.now)) }
         ensures same { property_of self.new ≡ property_of self.old }
     {
         match value {
@@ -258,17 +260,17 @@ fn number_texts(alloc: Global, numbers: &[u64]) -> Result<Vec<Text>, Memory>
 
 /// The text of each service: its host's name, `|` and its description.
 fn pair_texts(alloc: Global, pairs: &[(Text, Text)]) -> Result<Vec<Text>, Memory>
-    ensures { IfOk result (λ texts. texts.items ≡ map pair_text pairs.now) }
+    ensures { IfOk result (λ texts. texts.items ≡ map pair_element pairs.now) }
 {
     let mut texts = Vec::with_capacity(alloc, pairs.len())?;
     for (host, description) in pairs {
-        texts.push(pair_text(alloc, host, description)?)?;
+        texts.push(pair_element(alloc, host, description)?)?;
     }
     Ok(texts)
 }
 
-fn pair_text(alloc: Global, host: &Text, description: &Text) -> Result<Text, Memory>
-    ensures { IfOk result (λ text. text ≡ pair_text (host.now, description.now)) }
+fn pair_element(alloc: Global, host: &Text, description: &Text) -> Result<Text, Memory>
+    ensures { IfOk result (λ text. text ≡ pair_element (host.now, description.now)) }
 {
     let mut text = String::from_str(alloc, host.as_str())?;
     text.push('|')?;

@@ -1,7 +1,7 @@
 ghost use Rattle.std.specs.Prelude.{◌≡◌, ◌≤◌, All, IfOk, OnOk, length};
 ghost use Rattle.lq_filter.specs.Marks.{AreKept, AreKeptBefore, AreKeptBetween};
 ghost use Rattle.lq_filter.specs.Ready.{check_of_element, check_of_number};
-ghost use Rattle.lq_filter.specs.ReadyHeaders.{test_of};
+ghost use Rattle.lq_filter.specs.ReadyHeaders.{test_of_ready};
 ghost use Rattle.lq_filter.specs.Trees.{truth_on};
 ghost use Rattle.lq_filter.specs.declared.check.Comparison.TheVariants as by;
 ghost use Rattle.lq_filter.specs.declared.check.Property.TheVariants.{Compares};
@@ -32,8 +32,8 @@ impl ReadyTest<'_> {
     pub(crate) fn is_met<C: Cells>(&mut self, row: &Row<'_, C>) -> Result<bool, Memory>
         requires { C.has row.now.cells.now self.old.column }
         ensures met { IfOk result
-            (λ met. met ≡ truth_on (C.cell row.now.cells.now) (test_of self.old)) }
-        ensures same { test_of self.new ≡ test_of self.old }
+            (λ met. met ≡ truth_on (C.cell row.now.cells.now) (test_of_ready self.old)) }
+        ensures same { test_of_ready self.new ≡ test_of_ready self.old }
     {
         if self.check.is_of_number() {
             return self.is_met_by_number(row.alloc, row.cells);
@@ -54,9 +54,9 @@ impl ReadyTest<'_> {
             block.now.rows.now }
         requires marked { length marks.old ≡ length block.now.rows.now }
         ensures kept { OnOk result (AreKept
-            (λ row. truth_on (S.cell block.now.scan.now row) (test_of self.old))
+            (λ row. truth_on (S.cell block.now.scan.now row) (test_of_ready self.old))
             block.now.rows.now marks.old marks.new) }
-        ensures same { test_of self.new ≡ test_of self.old }
+        ensures same { test_of_ready self.new ≡ test_of_ready self.old }
     {
         if let Some(check) = self.check.of_number() {
             return self.keep_met_by_number(block, check, marks);
@@ -83,9 +83,9 @@ impl ReadyTest<'_> {
         requires marked { length marks.old ≡ length block.now.rows.now }
         requires asked { self.old.check ≡ check_of_number check }
         ensures kept { OnOk result (AreKept
-            (λ row. truth_on (S.cell block.now.scan.now row) (test_of self.old))
+            (λ row. truth_on (S.cell block.now.scan.now row) (test_of_ready self.old))
             block.now.rows.now marks.old marks.new) }
-        ensures same { test_of self.new ≡ test_of self.old }
+        ensures same { test_of_ready self.new ≡ test_of_ready self.old }
     {
         let done = block
             .scan
@@ -105,9 +105,9 @@ impl ReadyTest<'_> {
         requires marked { length marks.old ≡ length block.now.rows.now }
         requires within { start ≤ length block.now.rows.now }
         ensures kept { OnOk result (AreKeptBetween
-            (λ row. truth_on (S.cell block.now.scan.now row) (test_of self.old))
+            (λ row. truth_on (S.cell block.now.scan.now row) (test_of_ready self.old))
             block.now.rows.now marks.old marks.new start (length block.now.rows.now)) }
-        ensures same { test_of self.new ≡ test_of self.old }
+        ensures same { test_of_ready self.new ≡ test_of_ready self.old }
     {
         for place in start..block.rows.len() {
             if marks[place] {
@@ -128,9 +128,9 @@ impl ReadyTest<'_> {
             block.now.rows.now }
         requires marked { length marks.old ≡ length block.now.rows.now }
         ensures kept { OnOk result (AreKept
-            (λ row. truth_on (S.cell block.now.scan.now row) (test_of self.old))
+            (λ row. truth_on (S.cell block.now.scan.now row) (test_of_ready self.old))
             block.now.rows.now marks.old marks.new) }
-        ensures same { test_of self.new ≡ test_of self.old }
+        ensures same { test_of_ready self.new ≡ test_of_ready self.old }
     {
         let done = self.keep_texts(block, marks);
         self.keep_rest_by_text(block, done, marks)
@@ -142,7 +142,7 @@ impl ReadyTest<'_> {
         requires { length marks.old ≡ length block.now.rows.now }
         ensures within { result ≤ length block.now.rows.now }
         ensures kept { AreKeptBefore
-            (λ row. truth_on (S.cell block.now.scan.now row) (test_of self.now))
+            (λ row. truth_on (S.cell block.now.scan.now row) (test_of_ready self.now))
             block.now.rows.now marks.old marks.new result }
     {
         match self.check.of_text() {
@@ -163,9 +163,9 @@ impl ReadyTest<'_> {
         requires marked { length marks.old ≡ length block.now.rows.now }
         requires within { start ≤ length block.now.rows.now }
         ensures kept { OnOk result (AreKeptBetween
-            (λ row. truth_on (S.cell block.now.scan.now row) (test_of self.old))
+            (λ row. truth_on (S.cell block.now.scan.now row) (test_of_ready self.old))
             block.now.rows.now marks.old marks.new start (length block.now.rows.now)) }
-        ensures same { test_of self.new ≡ test_of self.old }
+        ensures same { test_of_ready self.new ≡ test_of_ready self.old }
     {
         for place in start..block.rows.len() {
             if marks[place] {
@@ -187,9 +187,9 @@ impl ReadyTest<'_> {
         requires marked { length marks.old ≡ length block.now.rows.now }
         requires asked { self.old.check ≡ check_of_element check }
         ensures kept { OnOk result (AreKept
-            (λ row. truth_on (S.cell block.now.scan.now row) (test_of self.old))
+            (λ row. truth_on (S.cell block.now.scan.now row) (test_of_ready self.old))
             block.now.rows.now marks.old marks.new) }
-        ensures same { test_of self.new ≡ test_of self.old }
+        ensures same { test_of_ready self.new ≡ test_of_ready self.old }
     {
         let done = block
             .scan
@@ -211,9 +211,9 @@ impl ReadyTest<'_> {
         requires within { start ≤ length block.now.rows.now }
         requires asked { self.old.check.property ≡ Compares (by.Contains element.now) }
         ensures kept { OnOk result (AreKeptBetween
-            (λ row. truth_on (S.cell block.now.scan.now row) (test_of self.old))
+            (λ row. truth_on (S.cell block.now.scan.now row) (test_of_ready self.old))
             block.now.rows.now marks.old marks.new start (length block.now.rows.now)) }
-        ensures same { test_of self.new ≡ test_of self.old }
+        ensures same { test_of_ready self.new ≡ test_of_ready self.old }
     {
         for place in start..block.rows.len() {
             if marks[place] {
@@ -233,9 +233,9 @@ impl ReadyTest<'_> {
             block.now.rows.now }
         requires marked { length marks.old ≡ length block.now.rows.now }
         ensures kept { OnOk result (AreKept
-            (λ row. truth_on (S.cell block.now.scan.now row) (test_of self.old))
+            (λ row. truth_on (S.cell block.now.scan.now row) (test_of_ready self.old))
             block.now.rows.now marks.old marks.new) }
-        ensures same { test_of self.new ≡ test_of self.old }
+        ensures same { test_of_ready self.new ≡ test_of_ready self.old }
     {
         for place in 0..block.rows.len() {
             if marks[place] {
@@ -249,8 +249,9 @@ impl ReadyTest<'_> {
     #[inline(always)]
     fn is_met_by_number<C: Cells>(&mut self, alloc: Global, cells: &C) -> Result<bool, Memory>
         requires { C.has cells.now self.old.column }
-        ensures met { IfOk result (λ met. met ≡ truth_on (C.cell cells.now) (test_of self.old)) }
-        ensures same { test_of self.new ≡ test_of self.old }
+        ensures met { IfOk result
+            (λ met. met ≡ truth_on (C.cell cells.now) (test_of_ready self.old)) }
+        ensures same { test_of_ready self.new ≡ test_of_ready self.old }
     {
         match cells.number(self.column) {
             Some(number) => Ok(self.check.is_met_by_number(number)),
@@ -262,8 +263,9 @@ impl ReadyTest<'_> {
     #[inline(always)]
     fn is_met_by_text<C: Cells>(&mut self, alloc: Global, cells: &C) -> Result<bool, Memory>
         requires { C.has cells.now self.old.column }
-        ensures met { IfOk result (λ met. met ≡ truth_on (C.cell cells.now) (test_of self.old)) }
-        ensures same { test_of self.new ≡ test_of self.old }
+        ensures met { IfOk result
+            (λ met. met ≡ truth_on (C.cell cells.now) (test_of_ready self.old)) }
+        ensures same { test_of_ready self.new ≡ test_of_ready self.old }
     {
         match cells.text(self.column) {
             Some(text) => Ok(self.check.is_met_by_text(text)),
@@ -282,8 +284,9 @@ impl ReadyTest<'_> {
     ) -> Result<bool, Memory>
         requires has { C.has cells.now self.old.column }
         requires asked { self.old.check.property ≡ Compares (by.Contains element.now) }
-        ensures met { IfOk result (λ met. met ≡ truth_on (C.cell cells.now) (test_of self.old)) }
-        ensures same { test_of self.new ≡ test_of self.old }
+        ensures met { IfOk result
+            (λ met. met ≡ truth_on (C.cell cells.now) (test_of_ready self.old)) }
+        ensures same { test_of_ready self.new ≡ test_of_ready self.old }
     {
         match cells.contains(self.column, element) {
             Some(found) => Ok(self.check.is_met_by_found(found)),
@@ -296,8 +299,9 @@ impl ReadyTest<'_> {
     #[inline(never)]
     fn is_met_by_value<C: Cells>(&mut self, alloc: Global, cells: &C) -> Result<bool, Memory>
         requires { C.has cells.now self.old.column }
-        ensures met { IfOk result (λ met. met ≡ truth_on (C.cell cells.now) (test_of self.old)) }
-        ensures same { test_of self.new ≡ test_of self.old }
+        ensures met { IfOk result
+            (λ met. met ≡ truth_on (C.cell cells.now) (test_of_ready self.old)) }
+        ensures same { test_of_ready self.new ≡ test_of_ready self.old }
     {
         let value = cells.get(alloc, self.column)?;
         self.check.is_met(alloc, &value)

@@ -3,7 +3,7 @@ ghost use Rattle.std.specs.List.{list_any};
 ghost use Rattle.lq_filter.specs.Marks.{AreKeptBefore};
 ghost use Rattle.lq_filter.specs.Ready.{check_of_element, check_of_number, check_of_text};
 ghost use Rattle.lq_filter.specs.Tests.{is_met};
-ghost use Rattle.lq_schema.specs.Value.{Number, Texts, Value, Words, shown};
+ghost use Rattle.lq_schema.specs.Value.{Number, Texts, Value, Words, meaning_of};
 ghost use Rattle.lq_schema.specs.declared.columns.Col.{Col};
 
 use crate::cells::Cells;
@@ -28,7 +28,7 @@ pub trait Scan {
     /// The value of a row's column. The only error is out of memory.
     fn get(&self, alloc: Global, row: &Self::Row, c: Col) -> Result<Val<'_>, Memory>
         requires { has self.now row.now c }
-        ensures { IfOk result (λ value. shown value ≡ cell self.now row.now c) };
+        ensures { IfOk result (λ value. meaning_of value ≡ cell self.now row.now c) };
 
     /// The number in a row's column, where it is found without memory. It may be None for any
     /// column.

@@ -1,5 +1,6 @@
-ghost use Rattle.std.specs.Prelude.{◌≡◌, ◌⊎◌, Bool, ◌+◌, ◌-◌, ◌^◌, ◌<◌, ◌≤◌, ◌++◌, ◌∷◌, [], drop, filter, length, IsOkAnd, OnErr, OnOk};
-ghost use Rattle.lq_filter.specs.Linked.{AreLinked, headers_of, truths_before};
+ghost use Rattle.std.specs.Prelude.{◌≡◌, ◌⊎◌, Bool, ◌+◌, ◌-◌, ◌^◌, ◌<◌, ◌≤◌, ◌++◌, ◌∷◌, [], drop};
+ghost use Rattle.std.specs.Prelude.{filter, length, IsOkAnd, OnErr, OnOk};
+ghost use Rattle.lq_filter.specs.Linked.{AreLinkedTrees, headers_of_nodes, truths_before};
 ghost use Rattle.lq_filter.specs.Prefixes.{AreTrees, Trees};
 ghost use Rattle.lq_filter.specs.Trees.{has_pattern, height, pattern_count};
 ghost use Rattle.lq_filter.specs.declared.header.Header.TheVariants as header;
@@ -23,12 +24,12 @@ pub struct Stack {
 
 impl Model for Stack {
     ghost use Rattle.std.specs.Prelude.{List};
-    ghost use Rattle.lq_filter.specs.Linked.{AreStacked, headers_of};
+    ghost use Rattle.lq_filter.specs.Linked.{AreStacked, headers_of_nodes};
     ghost use Rattle.lq_filter.specs.declared.header.Header.{Header};
 
     ghost Value = { List Header };
 
-    ghost view = { λ stack. headers_of stack.nodes.items };
+    ghost view = { λ stack. headers_of_nodes stack.nodes.items };
 
     ghost invariant = { λ stack. AreStacked stack.nodes.items stack.height };
 }
@@ -173,8 +174,8 @@ fn add_all(nodes: &mut Vec<Node>, later: Vec<Node>) -> Result<(), Memory>
 
 /// The place where the last so many trees begin.
 fn start_of(nodes: &[Node], count: usize) -> usize
-    requires linked { AreLinked nodes.now }
-    requires enough { count ≤ height (headers_of nodes.now) }
+    requires linked { AreLinkedTrees nodes.now }
+    requires enough { count ≤ height (headers_of_nodes nodes.now) }
     ensures within { result ≤ length nodes.now }
     ensures earlier { (truth : Test → Bool) →
         drop count (truths_before truth nodes.now (length nodes.now))

@@ -1,7 +1,7 @@
 -- What is to come of the downtimes lies ahead, through each change.
 use Rattle.std.proofs.Common.{◌≡◌, ℕ, ◌≤◌, min, Bool, true, false, List, [], ◌∷◌, ◌++◌, filter, refl, arith, true≢false}
 use Rattle.lq_events.specs.declared.status.Downtime.{Downtime}
-use Rattle.lq_live.specs.Kept.{AllFrom, IsFrom, first_of, next_of}
+use Rattle.lq_live.specs.Kept.{AllFrom, IsFrom, earliest_second, next_of}
 
 pub lower_from : (m n : ℕ) (ds : List Downtime) → m ≤ n → AllFrom n ds → AllFrom m ds
 lower_from m n [] low all = tt
@@ -42,6 +42,6 @@ next_by d false is = rw is (record { end = grind arith; start = λ inactive. gri
 pub next_from : (d : Downtime) → IsFrom (next_of d) d
 next_from d = next_by d d.active refl
 
-pub all_from_first : (ds : List Downtime) → AllFrom (first_of ds) ds
+pub all_from_first : (ds : List Downtime) → AllFrom (earliest_second ds) ds
 all_from_first [] = tt
-all_from_first (d ∷ ds) = first_from (first_of ds) (next_of d) d ds (all_from_first ds) (next_from d)
+all_from_first (d ∷ ds) = first_from (earliest_second ds) (next_of d) d ds (all_from_first ds) (next_from d)

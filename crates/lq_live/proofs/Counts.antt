@@ -9,8 +9,8 @@ use Rattle.lq_records.specs.declared.object.Object.{Object}
 use Rattle.lq_records.specs.declared.object.Object.TheVariants as object
 use Rattle.lq_records.specs.Object.{is_same_object}
 use Rattle.lq_events.specs.declared.status.Downtime.{Downtime}
-use Rattle.lq_live.specs.Downtimes.{Event, after, begin, depth, due, end_of, is_active_of, only_if, start_of}
-use Rattle.lq_live.specs.Depths.{AreDepths, Depths, counted_depth, moved, with_depth}
+use Rattle.lq_live.specs.Downtimes.{Event, downtimes_after, begin, depth, due, end_of, is_active_of, only_if, start_of}
+use Rattle.lq_live.specs.Depths.{AreDepths, Depths, counted_depth, changed_depth, with_depth}
 use Rattle.lq_live.specs.Ids.{IdsRise, downtime_id}
 use Rattle.lq_live.specs.Kept.{AllOrdered}
 use Rattle.lq_live.proofs.Changed.{changed_get, changed_length}
@@ -99,13 +99,13 @@ gone_found id (d ∷ ds) = by (d.id == id) refl (gone_found id ds)
     by false ends rest = rw (ends, ends) rest
 
 -- what an event leaves of its own downtime, and of another one
-own_after : (event : Event) (ds : List Downtime) (d : Downtime) (starts : Bool) → event.starts ≡ starts → with_id event.id ds ≡ Some d → with_id event.id (after event ds) ≡ next event d
+own_after : (event : Event) (ds : List Downtime) (d : Downtime) (starts : Bool) → event.starts ≡ starts → with_id event.id ds ≡ Some d → with_id event.id (downtimes_after event ds) ≡ next event d
 own_after event ds d true starts is =
     let same : (d.id == event.id) ≡ true = let id : d.id ≡ event.id = found_id event.id ds d is in grind (arith, nat_tests, id) in
     rw (starts, begun_found event.id event.id ds, is) (rw same refl)
 own_after event ds d false starts is = rw (starts, gone_found event.id ds) refl
 
-other_after : (event : Event) (id : ℕ) (ds : List Downtime) (starts : Bool) → event.starts ≡ starts → (event.id == id) ≡ false → with_id id (after event ds) ≡ with_id id ds
+other_after : (event : Event) (id : ℕ) (ds : List Downtime) (starts : Bool) → event.starts ≡ starts → (event.id == id) ≡ false → with_id id (downtimes_after event ds) ≡ with_id id ds
 other_after event id ds true starts other = rw (starts, begun_found id event.id ds) (by (with_id id ds) refl)
   where
     by : (found : Option Downtime) → with_id id ds ≡ found → option_map (begin event.id) found ≡ found
@@ -117,17 +117,17 @@ other_after event id ds false starts other =
     let apart : (id == event.id) ≡ false = grind (arith, nat_tests, other) in
     rw (starts, kept_found id event.id ds apart) refl
 
-pub rest_follow : (event : Event) (events : List Event) (ds : List Downtime) → Follow (event ∷ events) ds → Follow events (after event ds)
+pub rest_follow : (event : Event) (events : List Event) (ds : List Downtime) → Follow (event ∷ events) ds → Follow events (downtimes_after event ds)
 rest_follow event events ds follow = λ id. by id (event.id == id) refl
   where
     meets : Meets event ds
     meets = first_meets event events ds follow
 
-    by : (id : ℕ) (test : Bool) → (event.id == id) ≡ test → Fits (with_id id (after event ds)) (filter (own id) events)
+    by : (id : ℕ) (test : Bool) → (event.id == id) ≡ test → Fits (with_id id (downtimes_after event ds)) (filter (own id) events)
     by id true is =
         let same : event.id ≡ id = grind (arith, nat_tests, is) in
         let is_own : (event.id == event.id) ≡ true = grind (arith, nat_tests) in
-        subst (λ id. Fits (with_id id (after event ds)) (filter (own id) events)) same
+        subst (λ id. Fits (with_id id (downtimes_after event ds)) (filter (own id) events)) same
         (rw (own_after event ds meets.found event.starts refl meets.is) (meets.rest (filter (own event.id) events) (rw is_own at (follow event.id))))
     by id false is = rw (other_after event id ds event.starts refl is) (rw is at (follow id))
 
@@ -204,43 +204,43 @@ module _ (o : Object) (id next_id : ℕ) (found : Downtime) where
       by false is_it later = other (is_active_of o d) same refl refl is_it (later (rw is_it at is))
 
 pub depth_after : (event : Event) (next_id : ℕ) (ds : List Downtime) → IdsRise downtime_id 0 next_id ds → Meets event ds → (o : Object)
-    → depth o (after event ds) ≡ (if is_same_object event.object o then moved event.starts (depth o ds) else depth o ds)
+    → depth o (downtimes_after event ds) ≡ (if is_same_object event.object o then changed_depth event.starts (depth o ds) else depth o ds)
 depth_after event next_id ds rise meets o = rw meets.object (by event.starts refl)
   where
     fewer : (test : Bool) (left all : ℕ) → (if test then left + 1 else left) ≡ all → left ≡ (if test then all - 1 else all)
     fewer true left all is = omega (arith, is)
     fewer false left all is = is
 
-    by : (starts : Bool) → event.starts ≡ starts → depth o (after event ds) ≡ (if is_same_object meets.found.object o then moved event.starts (depth o ds) else depth o ds)
+    by : (starts : Bool) → event.starts ≡ starts → depth o (downtimes_after event ds) ≡ (if is_same_object meets.found.object o then changed_depth event.starts (depth o ds) else depth o ds)
     by true starts = rw starts (begun_depth o event.id next_id meets.found 0 ds rise meets.is (rw starts at meets.active))
     by false starts = rw starts (fewer (is_same_object meets.found.object o) _ (depth o ds) (ended_depth o event.id next_id meets.found 0 ds rise meets.is (rw starts at meets.active)))
 
 -- ---- the numbers of all objects
 
-each_by : (test : Bool) (found : Option ℕ) (begins : Bool) (n later : ℕ) → IfSome found (λ m. m ≡ n) → later ≡ (if test then moved begins n else n)
-    → IfSome (if test then option_map (moved begins) found else found) (λ m. m ≡ later)
+each_by : (test : Bool) (found : Option ℕ) (begins : Bool) (n later : ℕ) → IfSome found (λ m. m ≡ n) → later ≡ (if test then changed_depth begins n else n)
+    → IfSome (if test then option_map (changed_depth begins) found else found) (λ m. m ≡ later)
 each_by true None begins n later is changed = tt
-each_by true (Some m) begins n later is changed = ap (moved begins) is ∙ sym changed
+each_by true (Some m) begins n later is changed = ap (changed_depth begins) is ∙ sym changed
 each_by false None begins n later is changed = tt
 each_by false (Some m) begins n later is changed = is ∙ sym changed
 
 each_changed : (depths : Depths) (begins : Bool) (changed o : Object) (n later : ℕ) → IfSome (counted_depth depths o) (λ m. m ≡ n)
-    → later ≡ (if is_same_object changed o then moved begins n else n) → IfSome (counted_depth (with_depth begins changed depths) o) (λ m. m ≡ later)
-each_changed depths begins (object.Host a) (object.Host b) n later is more = rw (changed_get (moved begins) a.0 b.0 depths.hosts) (each_by (a.0 == b.0) _ begins n later is more)
+    → later ≡ (if is_same_object changed o then changed_depth begins n else n) → IfSome (counted_depth (with_depth begins changed depths) o) (λ m. m ≡ later)
+each_changed depths begins (object.Host a) (object.Host b) n later is more = rw (changed_get (changed_depth begins) a.0 b.0 depths.hosts) (each_by (a.0 == b.0) _ begins n later is more)
 each_changed depths begins (object.Host a) (object.Service b) n later is more = each_by false _ begins n later is more
 each_changed depths begins (object.Service a) (object.Host b) n later is more = each_by false _ begins n later is more
-each_changed depths begins (object.Service a) (object.Service b) n later is more = rw (changed_get (moved begins) a.0 b.0 depths.services) (each_by (a.0 == b.0) _ begins n later is more)
+each_changed depths begins (object.Service a) (object.Service b) n later is more = rw (changed_get (changed_depth begins) a.0 b.0 depths.services) (each_by (a.0 == b.0) _ begins n later is more)
 
 pub depths_changed : (base : Base) (ds later : List Downtime) (depths : Depths) (begins : Bool) (changed : Object) → AreDepths base ds depths
-    → ((o : Object) → depth o later ≡ (if is_same_object changed o then moved begins (depth o ds) else depth o ds)) → AreDepths base later (with_depth begins changed depths)
+    → ((o : Object) → depth o later ≡ (if is_same_object changed o then changed_depth begins (depth o ds) else depth o ds)) → AreDepths base later (with_depth begins changed depths)
 depths_changed base ds later depths begins (object.Host id) are more = record {
-  hosts = changed_length (moved begins) id.0 depths.hosts ∙ are.hosts;
+  hosts = changed_length (changed_depth begins) id.0 depths.hosts ∙ are.hosts;
   services = are.services;
   each = λ o. each_changed depths begins (object.Host id) o (depth o ds) (depth o later) (are.each o) (more o);
 }
 depths_changed base ds later depths begins (object.Service id) are more = record {
   hosts = are.hosts;
-  services = changed_length (moved begins) id.0 depths.services ∙ are.services;
+  services = changed_length (changed_depth begins) id.0 depths.services ∙ are.services;
   each = λ o. each_changed depths begins (object.Service id) o (depth o ds) (depth o later) (are.each o) (more o);
 }
 

@@ -9,7 +9,7 @@ use Rattle.std.proofs.lemmas.Cmp.{nat_cmp_total, on_total, then_total}
 use Rattle.lq_records.specs.declared.object.Object.{Object}
 use Rattle.lq_events.specs.declared.status.Downtime.{Downtime}
 use Rattle.lq_live.specs.State.{State}
-use Rattle.lq_live.specs.Downtimes.{Event, IsDue, MayPrecede, due, end_of, event_order, moments, only_if, sorted, start_of}
+use Rattle.lq_live.specs.Downtimes.{Event, IsDue, MayPrecede, due, end_of, event_order, moments, only_if, sort_by, start_of}
 use Rattle.lq_live.specs.Ids.{HasRisingIds, IdsRise, downtime_id}
 use Rattle.lq_live.proofs.Sorting.{Ascending, ascending_sorted, is_sorted, same_sorted}
 
@@ -153,5 +153,5 @@ pub due_is : (second : ℕ) (ds : List Downtime) → IsDue second ds (due second
 unfolding due
 due_is second ds = record {
   each = same_sorted event_order event_total (flat_map (moments second) ds);
-  order = adjacent (sorted event_order (flat_map (moments second) ds)) (ascending_sorted event_order event_total (flat_map (moments second) ds));
+  order = adjacent (sort_by event_order (flat_map (moments second) ds)) (ascending_sorted event_order event_total (flat_map (moments second) ds));
 }

@@ -13,8 +13,8 @@ use Rattle.lq_records.specs.Object.{is_same_object}
 use Rattle.lq_events.specs.declared.log_entry.LogEntry.{LogEntry}
 use Rattle.lq_events.specs.declared.status.Downtime.{Downtime}
 use Rattle.lq_live.specs.State.{line_names, host_in_line, names_of}
-use Rattle.lq_live.specs.Depths.{AreDepths, Depths, counted_depth, moved, with_depth}
-use Rattle.lq_live.specs.Downtimes.{Event, after, begin, change_of, crosses, depth, due, line_if}
+use Rattle.lq_live.specs.Depths.{AreDepths, Depths, counted_depth, changed_depth, with_depth}
+use Rattle.lq_live.specs.Downtimes.{Event, downtimes_after, begin, change_of, crosses, depth, due, line_if}
 use Rattle.lq_live.specs.Edits.{line_edits}
 use Rattle.lq_live.specs.Ids.{IdsRise, downtime_id}
 use Rattle.lq_live.specs.Kept.{AllOrdered}
@@ -35,7 +35,7 @@ begun_rise : (id least next : ℕ) (ds : List Downtime) → IdsRise downtime_id 
 begun_rise id least next [] all = tt
 begun_rise id least next (d ∷ ds) all = begun_by id least next d ds (d.id == id) refl all.0 all.1 (begun_rise id (d.id + 1) next ds all.2)
 
-after_rise : (next : ℕ) (event : Event) (ds : List Downtime) (starts : Bool) → event.starts ≡ starts → IdsRise downtime_id 0 next ds → IdsRise downtime_id 0 next (after event ds)
+after_rise : (next : ℕ) (event : Event) (ds : List Downtime) (starts : Bool) → event.starts ≡ starts → IdsRise downtime_id 0 next ds → IdsRise downtime_id 0 next (downtimes_after event ds)
 after_rise next event ds true is all = rw is (begun_rise event.id 0 next ds all)
 after_rise next event ds false is all = rw is (filter_rise downtime_id (λ downtime. not (downtime.id == event.id)) 0 next ds all)
 
@@ -51,13 +51,13 @@ filter_length test (d ∷ ds) = by (test d) refl (filter_length test ds)
     by true is fewer = rw is (omega (arith, fewer))
     by false is fewer = rw is (omega (arith, fewer))
 
-after_length : (event : Event) (ds : List Downtime) (starts : Bool) → event.starts ≡ starts → length (after event ds) ≤ length ds
+after_length : (event : Event) (ds : List Downtime) (starts : Bool) → event.starts ≡ starts → length (downtimes_after event ds) ≤ length ds
 after_length event ds true is = rw is (begun_length event.id ds)
 after_length event ds false is = rw is (filter_length (λ downtime. not (downtime.id == event.id)) ds)
 
-after_last : (events : List Event) (event : Event) (ds : List Downtime) → after_all (events ++ event ∷ []) ds ≡ after event (after_all events ds)
+after_last : (events : List Event) (event : Event) (ds : List Downtime) → after_all (events ++ event ∷ []) ds ≡ downtimes_after event (after_all events ds)
 after_last [] event ds = refl
-after_last (first ∷ events) event ds = after_last events event (after first ds)
+after_last (first ∷ events) event ds = after_last events event (downtimes_after first ds)
 
 -- ---- the line of an event
 
@@ -79,19 +79,19 @@ none_named base ds depths (object.Service id) are none =
     (slice_get_past base.services id.0 (omega (arith, past depths.services id.0 none, are.services)))
 
 event_line : (base : Base) (next : ℕ) (event : Event) (ds : List Downtime) (depths : Depths) (written : Bool) → AreDepths base ds depths → IdsRise downtime_id 0 next ds → Meets event ds
-    → IfSome (counted_depth depths event.object) (λ n. written ≡ crosses n (moved event.starts n))
+    → IfSome (counted_depth depths event.object) (λ n. written ≡ crosses n (changed_depth event.starts n))
     → line_if written event.moment (change_of event) (names_of base event.object) ≡ event_lines base event ds
 event_line base next event ds depths written are rise meets is = by (counted_depth depths event.object) refl (are.each event.object) is
   where
-    later : depth event.object (after event ds) ≡ moved event.starts (depth event.object ds)
+    later : depth event.object (downtimes_after event ds) ≡ changed_depth event.starts (depth event.object ds)
     later = depth_after event next ds rise meets event.object ∙ rw (same_self event.object) refl
 
-    by : (found : Option ℕ) → counted_depth depths event.object ≡ found → IfSome found (λ n. n ≡ depth event.object ds) → IfSome found (λ n. written ≡ crosses n (moved event.starts n))
+    by : (found : Option ℕ) → counted_depth depths event.object ≡ found → IfSome found (λ n. n ≡ depth event.object ds) → IfSome found (λ n. written ≡ crosses n (changed_depth event.starts n))
         → line_if written event.moment (change_of event) (names_of base event.object) ≡ event_lines base event ds
     by None none same is = rw (none_named base ds depths event.object are none) refl
     by (Some n) found same is =
         ap (λ test. line_if test event.moment (change_of event) (names_of base event.object))
-        (is ∙ ap (λ n. crosses n (moved event.starts n)) same ∙ ap (crosses (depth event.object ds)) (sym later))
+        (is ∙ ap (λ n. crosses n (changed_depth event.starts n)) same ∙ ap (crosses (depth event.object ds)) (sym later))
 
 -- ---- all events
 
@@ -123,17 +123,17 @@ lines_both (entry ∷ a) b = ap (λ edits. edit.Line entry ∷ edits) (lines_bot
 
 pub one_taken : (base : Base) (events : List Event) (place : ℕ) (ds : List Downtime) (next : ℕ) (old edits new : List Edit) (depths : Depths) (event : Event) (written : Bool)
     → place < length events → event ≡ get_or events place event → Taken base events place ds next old edits depths
-    → IfSome (counted_depth depths event.object) (λ n. written ≡ crosses n (moved event.starts n))
+    → IfSome (counted_depth depths event.object) (λ n. written ≡ crosses n (changed_depth event.starts n))
     → new ≡ edits ++ line_edits (line_if written event.moment (change_of event) (names_of base event.object))
     → Taken base events (place + 1) ds next old new (with_depth event.starts event.object depths)
 one_taken base events place ds next old edits new depths event written within is taken says adds = record {
   lines =
       rw (more, adds, line)
-      (append_assoc edits (line_edits (event_lines base event before)) (line_edits (due_lines base rest (after event before)))
-      ∙ ap (λ lines. edits ++ lines) (sym (lines_both (event_lines base event before) (due_lines base rest (after event before))))
+      (append_assoc edits (line_edits (event_lines base event before)) (line_edits (due_lines base rest (downtimes_after event before)))
+      ∙ ap (λ lines. edits ++ lines) (sym (lines_both (event_lines base event before) (due_lines base rest (downtimes_after event before))))
       ∙ ap (λ events. edits ++ line_edits (due_lines base events before)) (sym gone)
       ∙ taken.lines);
-  counts = rw more (depths_changed base before (after event before) depths event.starts event.object taken.counts (depth_after event next before taken.rise meets));
+  counts = rw more (depths_changed base before (downtimes_after event before) depths event.starts event.object taken.counts (depth_after event next before taken.rise meets));
   follow = rw more (rest_follow event rest before follow);
   rise = rw more (after_rise next event before event.starts refl taken.rise);
   fewer = rw more (omega (arith, after_length event before event.starts refl, taken.fewer));
@@ -151,7 +151,7 @@ one_taken base events place ds next old edits new depths event written within is
     gone : drop place events ≡ event ∷ rest
     gone = drop-cons events place event within ∙ ap (λ first. first ∷ drop (suc place) events) (sym is) ∙ ap (λ place. event ∷ drop place events) later
 
-    more : left events (place + 1) ds ≡ after event (left events place ds)
+    more : left events (place + 1) ds ≡ downtimes_after event (left events place ds)
     more = ap (λ events. after_all events ds) (take_more events place event within ∙ ap (λ event. take place events ++ event ∷ []) (sym is)) ∙ after_last (take place events) event ds
 
     follow : Follow (event ∷ rest) (left events place ds)

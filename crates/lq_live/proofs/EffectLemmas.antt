@@ -17,8 +17,8 @@ use Rattle.lq_log.proofs.LineLemmas.{written_of_line}
 use Rattle.lq_live.specs.State.{LineNames, State, names_of, object_status}
 use Rattle.lq_live.specs.Results.{Attempt, check_attempt, differs, ends_acknowledgement, is_bar, is_ok, most_code, status_after}
 use Rattle.lq_live.specs.Downtimes.{crosses, depth, downtime_line, line_if, only_if}
-use Rattle.lq_live.specs.Effects.{AcknowledgeProblem, AddComment, CheckResult, Command, DelComment, DelDowntime, DisableNotifications, DisableNotificationsOf, EnableNotifications, EnableNotificationsOf, NewComment, NewDowntime, RemoveAcknowledgement, ScheduleDowntime, Unknown, alert_line, comment_of, downtime_of, holds, is_named, is_taken}
-use Rattle.lq_live.specs.Edits.{line_edits, line_in}
+use Rattle.lq_live.specs.Effects.{AcknowledgeProblem, AddComment, CheckResult, Command, DelComment, DelDowntime, DisableNotifications, DisableNotificationsOf, EnableNotifications, EnableNotificationsOf, NewComment, NewDowntime, RemoveAcknowledgement, ScheduleDowntime, Unknown, alert_line, comment_of, downtime_of, holds_object, has_id_and_kind, is_taken}
+use Rattle.lq_live.specs.Edits.{line_edits, line_of_edit}
 use Rattle.lq_live.specs.StepEdits.{acknowledge_edits_in, change_edits, check_edits, comment_edits, effect_edits, known_edits, notify_edits, remove_acknowledgement_edits, remove_found_edits, result_edits, schedule_edits}
 use Rattle.lq_live.specs.Order.{EditAt, EditsAt, IsNew, LineAt, additions, all_additions}
 use Rattle.lq_live.specs.Kept.{MayFollow, Timely, time_behind}
@@ -98,7 +98,7 @@ check_effect object code output s =
 
 comment_effect : (object : Object) (new : NewComment) (s : State) → IsEffect s.now (comment_edits object new s)
 comment_effect object new s =
-    if_effect s.now (holds s.base object) (edit.AddComment (comment_of 1 object new s)) (λ _. (tt, tt)) (omega arith)
+    if_effect s.now (holds_object s.base object) (edit.AddComment (comment_of 1 object new s)) (λ _. (tt, tt)) (omega arith)
 
 acknowledge_effect : (old : Option Status) (object : Object) (sticky : ℕ) (new : NewComment) (s : State)
     → IsEffect s.now (acknowledge_edits_in old object sticky new s)
@@ -106,10 +106,10 @@ acknowledge_effect None object sticky new s = nothing s.now
 acknowledge_effect (Some old) object sticky new s = effect_unless s.now (is_ok old.state) _ (record { at = ((tt, tt), ((tt, tt), tt)); one = omega arith })
 
 remove_acknowledgement_effect : (object : Object) (s : State) → IsEffect s.now (remove_acknowledgement_edits object s)
-remove_acknowledgement_effect object s = effect_if s.now (holds s.base object) _ (record { at = ((tt, tt), ((tt, tt), tt)); one = omega arith })
+remove_acknowledgement_effect object s = effect_if s.now (holds_object s.base object) _ (record { at = ((tt, tt), ((tt, tt), tt)); one = omega arith })
 
 notify_effect : (object : Object) (on : ℕ) (s : State) → IsEffect s.now (notify_edits object on s)
-notify_effect object on s = if_effect s.now (holds s.base object) (edit.SetNotifications object on) (λ _. (tt, tt)) (omega arith)
+notify_effect object on s = if_effect s.now (holds_object s.base object) (edit.SetNotifications object on) (λ _. (tt, tt)) (omega arith)
 
 change_line_at : (moment : ℕ) (test : Bool) (change : DowntimeChange) (names : Option LineNames) (rest : List Edit) → EditsAt moment rest
     → EditsAt moment (line_edits (line_if test moment change names) ++ rest)
@@ -150,12 +150,12 @@ both_true true b is = is
 both_true false b is = absurd (false≢true is)
 
 schedule_effect : (new : NewDowntime) (s : State) → IsEffect s.now (schedule_edits new s)
-schedule_effect new s = by (holds s.base new.object && is_taken s.now new) refl
+schedule_effect new s = by (holds_object s.base new.object && is_taken s.now new) refl
   where
-    by : (test : Bool) → (holds s.base new.object && is_taken s.now new) ≡ test → IsEffect s.now (schedule_edits new s)
+    by : (test : Bool) → (holds_object s.base new.object && is_taken s.now new) ≡ test → IsEffect s.now (schedule_edits new s)
     by true is =
         rw is (change_effect downtime_change.Started new.object (s.downtimes ++ downtime_of new s ∷ []) (edit.AddDowntime (downtime_of new s)) s
-        (tt, new_downtime new s (taken_end s.now new (both_true (holds s.base new.object) _ is))) (omega arith))
+        (tt, new_downtime new s (taken_end s.now new (both_true (holds_object s.base new.object) _ is))) (omega arith))
     by false is = rw is (nothing s.now)
 
 one_edit : (second : ℕ) (edit : Edit) → EditAt second edit → additions edit ≤ 1 → IsEffect second (edit ∷ [])
@@ -163,7 +163,7 @@ one_edit second edit at one = record { at = (at, tt); one = grind (arith, one) }
 
 remove_effect : (found : Option Downtime) (kind : ObjectKind) (id : ℕ) (s : State) → IsEffect s.now (remove_found_edits found kind id s)
 remove_effect None kind id s = nothing s.now
-remove_effect (Some found) kind id s = change_effect downtime_change.Cancelled found.object (filter (λ downtime. not (is_named kind id downtime.id downtime.object)) s.downtimes) (edit.RemoveDowntime kind id) s (tt, tt) (omega arith)
+remove_effect (Some found) kind id s = change_effect downtime_change.Cancelled found.object (filter (λ downtime. not (has_id_and_kind kind id downtime.id downtime.object)) s.downtimes) (edit.RemoveDowntime kind id) s (tt, tt) (omega arith)
 
 pub effect_is : (command : Command) (s : State) → IsEffect s.now (effect_edits command s)
 effect_is (CheckResult object code output) s = check_effect object code output s
@@ -172,7 +172,7 @@ effect_is (DelComment kind id) s = one_edit s.now (edit.RemoveComment kind id) (
 effect_is (AcknowledgeProblem object sticky new) s = acknowledge_effect (object_status s object) object sticky new s
 effect_is (RemoveAcknowledgement object) s = remove_acknowledgement_effect object s
 effect_is (ScheduleDowntime new) s = schedule_effect new s
-effect_is (DelDowntime kind id) s = remove_effect (find (λ downtime. is_named kind id downtime.id downtime.object) s.downtimes) kind id s
+effect_is (DelDowntime kind id) s = remove_effect (find (λ downtime. has_id_and_kind kind id downtime.id downtime.object) s.downtimes) kind id s
 effect_is (EnableNotificationsOf object) s = notify_effect object 1 s
 effect_is (DisableNotificationsOf object) s = notify_effect object 0 s
 effect_is EnableNotifications s = one_edit s.now (edit.NotifyAtAll true) (tt, tt) (omega arith)
@@ -189,4 +189,4 @@ at_by second (Some entry) edits below at timely =
 
 pub at_timely : (second : ℕ) (edits : List Edit) → second < time_limit → EditsAt second edits → Timely second edits
 at_timely second [] below all = tt
-at_timely second (edit ∷ edits) below all = at_by second (line_in edit) edits below all.0.0 (at_timely second edits below all.1)
+at_timely second (edit ∷ edits) below all = at_by second (line_of_edit edit) edits below all.0.0 (at_timely second edits below all.1)

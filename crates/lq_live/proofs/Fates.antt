@@ -5,8 +5,8 @@ use Rattle.std.proofs.lemmas.List.Elements.{filter-append}
 use Rattle.std.specs.Cmp.{ranked}
 use Rattle.lq_records.specs.declared.object.Object.{Object}
 use Rattle.lq_events.specs.declared.status.Downtime.{Downtime}
-use Rattle.lq_live.specs.Downtimes.{Event, after, begin, due, end_of, event_order, moments, only_if, sorted, start_of}
-use Rattle.lq_live.specs.Edits.{begun_by, ends_after, settled}
+use Rattle.lq_live.specs.Downtimes.{Event, downtimes_after, begin, due, end_of, event_order, moments, only_if, sort_by, start_of}
+use Rattle.lq_live.specs.Edits.{begun_by, ends_after, downtimes_at}
 use Rattle.lq_live.specs.Ids.{IdsRise, downtime_id}
 use Rattle.lq_live.specs.Kept.{AllOrdered}
 use Rattle.lq_live.specs.Order.{after_all}
@@ -85,7 +85,7 @@ nat_less a b Greater is below = let above : b < a = ranked a b Greater (sym is) 
 
 -- a start stands before its end
 sorted_moments : (second : ℕ) (d : Downtime) (starts ends : Bool) → d.start < d.end
-    → sorted event_order (only_if starts (start_of d) ++ only_if ends (end_of d)) ≡ only_if starts (start_of d) ++ only_if ends (end_of d)
+    → sort_by event_order (only_if starts (start_of d) ++ only_if ends (end_of d)) ≡ only_if starts (start_of d) ++ only_if ends (end_of d)
 sorted_moments second d false false order = refl
 sorted_moments second d false true order = refl
 sorted_moments second d true false order = refl
@@ -102,9 +102,9 @@ found_order id (d ∷ ds) found is all = by (d.id == id) refl (λ same. found_or
 pub due_own : (id second next : ℕ) (ds : List Downtime) → IdsRise downtime_id 0 next ds → AllOrdered ds → filter (own id) (due second ds) ≡ due_of second (with_id id ds)
 unfolding due
 due_own id second next ds rise all =
-    sorted_kept event_order event_total (own id) (flat_map (moments second) ds) ∙ ap (sorted event_order) (all_own id second 0 next ds rise) ∙ by (with_id id ds) refl
+    sorted_kept event_order event_total (own id) (flat_map (moments second) ds) ∙ ap (sort_by event_order) (all_own id second 0 next ds rise) ∙ by (with_id id ds) refl
   where
-    by : (found : Option Downtime) → with_id id ds ≡ found → sorted event_order (due_of second found) ≡ due_of second found
+    by : (found : Option Downtime) → with_id id ds ≡ found → sort_by event_order (due_of second found) ≡ due_of second found
     by None is = refl
     by (Some d) is = sorted_moments second d (not d.active && nat_le d.start second) (nat_le d.end second) (found_order id ds d is all)
 
@@ -130,7 +130,7 @@ abbrev made : ℕ → Bool → ℕ → Object → Event
 made moment starts id object = record { moment = moment; starts = starts; id = id; object = object }
 
 fates_next : (moment id : ℕ) (object : Object) (starts : Bool) (events : List Event) (ds : List Downtime)
-    → fates events (after (made moment starts id object) ds) ≡ fates (made moment starts id object ∷ events) ds
+    → fates events (downtimes_after (made moment starts id object) ds) ≡ fates (made moment starts id object ∷ events) ds
 fates_next moment id object true events [] = refl
 fates_next moment id object false events [] = refl
 fates_next moment id object true events (d ∷ ds) = by (d.id == id) refl (fates_next moment id object true events ds)
@@ -148,7 +148,7 @@ fates_next moment id object false events (d ∷ ds) = by (d.id == id) refl (fate
 
 all_fates : (events : List Event) (ds : List Downtime) → after_all events ds ≡ fates events ds
 all_fates [] ds = sym (no_fate ds)
-all_fates (event ∷ events) ds = all_fates events (after event ds) ∙ fates_next event.moment event.id event.object event.starts events ds
+all_fates (event ∷ events) ds = all_fates events (downtimes_after event ds) ∙ fates_next event.moment event.id event.object event.starts events ds
 
 -- ---- what is due leaves the downtimes settled
 
@@ -171,11 +171,11 @@ abbrev HasOwn : ℕ → List Event → List Downtime → Type 0
 HasOwn second events [] = Unit {0}
 HasOwn second events (d ∷ ds) = (filter (own d.id) events ≡ moments second d) × HasOwn second events ds
 
-fates_settled : (second : ℕ) (events : List Event) (ds : List Downtime) → HasOwn second events ds → fates events ds ≡ settled second ds
+fates_settled : (second : ℕ) (events : List Event) (ds : List Downtime) → HasOwn second events ds → fates events ds ≡ downtimes_at second ds
 fates_settled second events [] all = refl
 fates_settled second events (d ∷ ds) all = by (ends_after second d) refl (fates_settled second events ds all.1)
   where
-    by : (stays : Bool) → ends_after second d ≡ stays → fates events ds ≡ settled second ds → fates events (d ∷ ds) ≡ settled second (d ∷ ds)
+    by : (stays : Bool) → ends_after second d ≡ stays → fates events ds ≡ downtimes_at second ds → fates events (d ∷ ds) ≡ downtimes_at second (d ∷ ds)
     by true is rest = rw (all.0, due_fate second d, is, rest) refl
     by false is rest = rw (all.0, due_fate second d, is, rest) refl
 
@@ -191,7 +191,7 @@ due_has_own second least next events ds (d ∷ more) each known rise =
           (λ _ none. absurd (no_downtime e (sym none ∙ is))) (λ _. is))) rise.2,
     )
 
-pub due_settled : (second next : ℕ) (ds : List Downtime) → IdsRise downtime_id 0 next ds → AllOrdered ds → after_all (due second ds) ds ≡ settled second ds
+pub due_settled : (second next : ℕ) (ds : List Downtime) → IdsRise downtime_id 0 next ds → AllOrdered ds → after_all (due second ds) ds ≡ downtimes_at second ds
 due_settled second next ds rise order =
     all_fates (due second ds) ds
     ∙ fates_settled second (due second ds) ds

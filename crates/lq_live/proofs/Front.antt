@@ -7,7 +7,7 @@ use Rattle.lq_events.specs.declared.status.Status.{Status}
 use Rattle.lq_events.specs.declared.update.Update.{Update}
 use Rattle.lq_live.specs.State.{State, with_status}
 use Rattle.lq_live.specs.Always.{IsFront}
-use Rattle.lq_live.specs.Effects.{acknowledge_as, command_of}
+use Rattle.lq_live.specs.Effects.{acknowledge_as, command_of_act}
 use Rattle.lq_live.specs.Edits.{make_edit, play_edits}
 use Rattle.lq_live.specs.Ids.{HasRisingIds}
 use Rattle.lq_live.specs.Kept.{AllOrdered, at_second}
@@ -43,7 +43,7 @@ play_front (edit ∷ edits) s = front_on s.log (make_edit edit s).log (play_edit
 
 pub step_front : (s : State) (update : Update) → HasRisingIds s → AllOrdered s.downtimes → IsFront s.log (step s update).log
 step_front s update ids order =
-    let changes : List Edit = effect_edits (command_of update.act) (at_second (second_after s update) s) in
+    let changes : List Edit = effect_edits (command_of_act update.act) (at_second (second_after s update) s) in
     subst (λ t. IsFront s.log t.log) (step_by s update ids order)
     (front_on s.log (ready_by s update).log (play_edits changes (ready_by s update)).log
     (front_on s.log _ (ready_by s update).log (more_front s.log _) (more_front _ _))
@@ -68,4 +68,4 @@ play_base (edit ∷ edits) s = play_base edits (make_edit edit s) ∙ edit_base 
 pub step_base : (s : State) (update : Update) → HasRisingIds s → AllOrdered s.downtimes → (step s update).base ≡ s.base
 step_base s update ids order =
     ap (λ (t : State). t.base) (sym (step_by s update ids order))
-    ∙ play_base (effect_edits (command_of update.act) (at_second (second_after s update) s)) (ready_by s update)
+    ∙ play_base (effect_edits (command_of_act update.act) (at_second (second_after s update) s)) (ready_by s update)

@@ -12,7 +12,7 @@ use Rattle.lq_events.specs.declared.update.Update.{Update}
 use Rattle.lq_live.specs.State.{LineNames, State, names_of, object_status, with_status}
 use Rattle.lq_live.specs.Results.{Attempt, check_attempt, differs, ends_acknowledgement, is_ok, most_code}
 use Rattle.lq_live.specs.Downtimes.{only_if}
-use Rattle.lq_live.specs.Effects.{AcknowledgeProblem, AddComment, CheckResult, Command, DelComment, DelDowntime, DisableNotifications, DisableNotificationsOf, EnableNotifications, EnableNotificationsOf, NewComment, RemoveAcknowledgement, ScheduleDowntime, Unknown, acknowledge_as, alert_line, comment_of, downtime_of, goes_with_acknowledgement, holds, is_named, is_taken}
+use Rattle.lq_live.specs.Effects.{AcknowledgeProblem, AddComment, CheckResult, Command, DelComment, DelDowntime, DisableNotifications, DisableNotificationsOf, EnableNotifications, EnableNotificationsOf, NewComment, RemoveAcknowledgement, ScheduleDowntime, Unknown, acknowledge_as, alert_line, comment_of, downtime_of, goes_with_acknowledgement, holds_object, has_id_and_kind, is_taken}
 use Rattle.lq_live.specs.Edits.{line_edits, make_edit, play_edits}
 use Rattle.lq_live.specs.Ids.{HasRisingIds, IdsRise, comment_id, downtime_id}
 use Rattle.lq_live.specs.Order.{EditAt, EditsAt, additions, all_additions}
@@ -76,14 +76,14 @@ ids_edited second (edit.AddComment comment) s at gives has = record {
 }
 ids_edited second (edit.RemoveComment kind id) s at gives has = record {
   downtimes = has.downtimes;
-  comments = filter_rise comment_id (λ comment. not (is_named kind id comment.id comment.object)) 0 s.next_comment s.comments has.comments;
+  comments = filter_rise comment_id (λ comment. not (has_id_and_kind kind id comment.id comment.object)) 0 s.next_comment s.comments has.comments;
 }
 ids_edited second (edit.AddDowntime downtime) s at gives has = record {
   downtimes = added_rise downtime_id 0 s.next_downtime downtime s.downtimes (omega arith) gives has.downtimes;
   comments = has.comments;
 }
 ids_edited second (edit.RemoveDowntime kind id) s at gives has = record {
-  downtimes = filter_rise downtime_id (λ downtime. not (is_named kind id downtime.id downtime.object)) 0 s.next_downtime s.downtimes has.downtimes;
+  downtimes = filter_rise downtime_id (λ downtime. not (has_id_and_kind kind id downtime.id downtime.object)) 0 s.next_downtime s.downtimes has.downtimes;
   comments = has.comments;
 }
 ids_edited second (edit.NotifyAtAll on) s at gives has = record { downtimes = has.downtimes; comments = has.comments }
@@ -163,16 +163,16 @@ effect_given (CheckResult object code output) s =
     given_if s.next_downtime s.next_comment (nat_le code (most_code object)) _
     (result_given s s.base object (pos code) output (names_of s.base object) (object_status s object))
 effect_given (AddComment object new) s =
-    given_only_if s.next_downtime s.next_comment (holds s.base object) (edit.AddComment (comment_of 1 object new s)) refl
+    given_only_if s.next_downtime s.next_comment (holds_object s.base object) (edit.AddComment (comment_of 1 object new s)) refl
 effect_given (DelComment kind id) s = (tt, tt)
 effect_given (AcknowledgeProblem object sticky new) s = acknowledge_given (object_status s object) object sticky new s
-effect_given (RemoveAcknowledgement object) s = given_if s.next_downtime s.next_comment (holds s.base object) _ (tt, (tt, tt))
+effect_given (RemoveAcknowledgement object) s = given_if s.next_downtime s.next_comment (holds_object s.base object) _ (tt, (tt, tt))
 effect_given (ScheduleDowntime new) s =
-    given_if s.next_downtime s.next_comment (holds s.base new.object && is_taken s.now new) _
+    given_if s.next_downtime s.next_comment (holds_object s.base new.object && is_taken s.now new) _
     (lines_given s.next_downtime s.next_comment _ (edit.AddDowntime (downtime_of new s) ∷ []) (refl, tt))
-effect_given (DelDowntime kind id) s = remove_given (find (λ downtime. is_named kind id downtime.id downtime.object) s.downtimes) kind id s
-effect_given (EnableNotificationsOf object) s = given_only_if s.next_downtime s.next_comment (holds s.base object) (edit.SetNotifications object 1) tt
-effect_given (DisableNotificationsOf object) s = given_only_if s.next_downtime s.next_comment (holds s.base object) (edit.SetNotifications object 0) tt
+effect_given (DelDowntime kind id) s = remove_given (find (λ downtime. has_id_and_kind kind id downtime.id downtime.object) s.downtimes) kind id s
+effect_given (EnableNotificationsOf object) s = given_only_if s.next_downtime s.next_comment (holds_object s.base object) (edit.SetNotifications object 1) tt
+effect_given (DisableNotificationsOf object) s = given_only_if s.next_downtime s.next_comment (holds_object s.base object) (edit.SetNotifications object 0) tt
 effect_given EnableNotifications s = (tt, tt)
 effect_given DisableNotifications s = (tt, tt)
 effect_given Unknown s = tt

@@ -7,12 +7,12 @@ use Rattle.lq_events.specs.declared.status.Downtime.{Downtime}
 use Rattle.lq_events.specs.declared.status.Status.{Status}
 use Rattle.lq_events.specs.declared.update.Update.{Update}
 use Rattle.lq_log.specs.Book.{last_time, time_limit}
-use Rattle.lq_log.specs.Written.{written}
+use Rattle.lq_log.specs.Written.{entry_of_form}
 use Rattle.lq_log.specs.declared.written.Form.TheVariants as form
 use Rattle.lq_log.proofs.LineLemmas.{written_of_line}
 use Rattle.lq_live.specs.State.{State, with_status}
 use Rattle.lq_live.specs.Downtimes.{Event, due}
-use Rattle.lq_live.specs.Effects.{acknowledge_as, command_of, is_named}
+use Rattle.lq_live.specs.Effects.{acknowledge_as, command_of_act, has_id_and_kind}
 use Rattle.lq_live.specs.Edits.{line_edits, make_edit, play_edits}
 use Rattle.lq_live.specs.StepEdits.{advance_edits, effect_edits, step_edits}
 use Rattle.lq_live.specs.Order.{EditAt, EditsAt, LinesUpTo, Rising, additions, all_additions, due_lines}
@@ -144,9 +144,9 @@ of_edited second count least (edit.RemoveDowntime kind id) s at of = record {
   services = of.services;
   now = of.now;
   lines = of.lines;
-  ahead = filter_from (second + 1) (λ downtime. not (is_named kind id downtime.id downtime.object)) s.downtimes of.ahead;
-  order = ordered_filter (λ downtime. not (is_named kind id downtime.id downtime.object)) s.downtimes of.order;
-  begun = filter_begun second (λ downtime. not (is_named kind id downtime.id downtime.object)) s.downtimes of.begun;
+  ahead = filter_from (second + 1) (λ downtime. not (has_id_and_kind kind id downtime.id downtime.object)) s.downtimes of.ahead;
+  order = ordered_filter (λ downtime. not (has_id_and_kind kind id downtime.id downtime.object)) s.downtimes of.order;
+  begun = filter_begun second (λ downtime. not (has_id_and_kind kind id downtime.id downtime.object)) s.downtimes of.begun;
   downtime_ids = omega (arith, of.downtime_ids);
   comment_ids = omega (arith, of.comment_ids);
   longer = of.longer;
@@ -169,7 +169,7 @@ of_ready s update kept =
     let later : s.now ≤ second = grind arith in
     let events : List Event = due second s.downtimes in
     let lines : List LogEntry = due_lines s.base events s.downtimes in
-    let line : LogEntry = written second (form.External update.text) in
+    let line : LogEntry = entry_of_form second (form.External update.text) in
     let rising : Rising s.now second events = due_rising s.now second s.downtimes kept.ahead in
     let longer : length ((s.log ++ lines) ++ line ∷ []) ≡ length s.log + length lines + 1 = grind (arith, length-append s.log lines, length-append (s.log ++ lines) (line ∷ [])) in
     record {
@@ -203,8 +203,8 @@ fewer second more less least s low of = record {
 of_step : (s : State) (update : Update) → IsKept s → IsOf (second_after s update) 0 (length s.log + 1) (step s update)
 of_step s update kept =
     let second : ℕ = second_after s update in
-    let changes : List Edit = effect_edits (command_of update.act) (at_second second s) in
-    let is : IsEffect second changes = effect_is (command_of update.act) (at_second second s) in
+    let changes : List Edit = effect_edits (command_of_act update.act) (at_second second s) in
+    let is : IsEffect second changes = effect_is (command_of_act update.act) (at_second second s) in
     subst (λ t. IsOf second 0 (length s.log + 1) t) (step_by s update kept.ids kept.order)
     (of_played second (length s.log + 1) changes (ready_by s update) is.at
     (fewer second 1 (all_additions changes) (length s.log + 1) (ready_by s update) is.one (of_ready s update kept)))
@@ -212,10 +212,10 @@ of_step s update kept =
 step_ids : (s : State) (update : Update) → HasRisingIds s → AllOrdered s.downtimes → HasRisingIds (step s update)
 step_ids s update has order =
     let second : ℕ = second_after s update in
-    let changes : List Edit = effect_edits (command_of update.act) (at_second second s) in
-    let is : IsEffect second changes = effect_is (command_of update.act) (at_second second s) in
+    let changes : List Edit = effect_edits (command_of_act update.act) (at_second second s) in
+    let is : IsEffect second changes = effect_is (command_of_act update.act) (at_second second s) in
     subst (λ t. HasRisingIds t) (step_by s update has order)
-    (ids_played second changes (ready_by s update) is.at is.one (effect_given (command_of update.act) (at_second second s)) (ids_ready s update has))
+    (ids_played second changes (ready_by s update) is.at is.one (effect_given (command_of_act update.act) (at_second second s)) (ids_ready s update has))
 
 pub step_kept : (s : State) (update : Update) → IsKept s → IsKept (step s update)
 step_kept s update kept =
@@ -250,9 +250,9 @@ step_timely s update kept =
     let later : s.now ≤ second = grind arith in
     let below : second < time_limit = second_below s.now update.time kept.second in
     let events : List Event = due second s.downtimes in
-    let changes : List Edit = effect_edits (command_of update.act) (at_second second s) in
-    let is : IsEffect second changes = effect_is (command_of update.act) (at_second second s) in
-    let line : Edit = edit.Line (written second (form.External update.text)) in (
+    let changes : List Edit = effect_edits (command_of_act update.act) (at_second second s) in
+    let is : IsEffect second changes = effect_is (command_of_act update.act) (at_second second s) in
+    let line : Edit = edit.Line (entry_of_form second (form.External update.text)) in (
       tt,
       timely_later (last_time s.log) s.now (line_edits (due_lines s.base events s.downtimes) ++ line ∷ changes) kept.lines
           (due_timely s.now second s.base events s.downtimes (line ∷ changes)

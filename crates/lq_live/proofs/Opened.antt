@@ -15,7 +15,7 @@ use Rattle.lq_log.specs.declared.telling.Told.{Told}
 use Rattle.lq_log.specs.declared.telling.Told.TheVariants as told
 use Rattle.lq_live.specs.Kept.{AllFrom, IsKept, KeepsAll, state_of}
 use Rattle.lq_live.specs.LastTold.{AreTold}
-use Rattle.lq_live.specs.Opening.{opened, status_told, where_told, with_line, with_lines}
+use Rattle.lq_live.specs.Opening.{opening_state, status_told, where_told, with_log_line, with_lines}
 use Rattle.lq_live.specs.State.{State, all_pending, changed_at, with_status}
 use Rattle.lq_live.specs.declared.live_state.LiveState.{LiveState}
 use Rattle.lq_live.proofs.Changed.{changed_length}
@@ -77,11 +77,11 @@ told_beside entry (Some (told.Period on)) of s = itself s
 lines_beside : (log : List LogEntry) (s : State) → IsBeside s (with_lines log s)
 lines_beside [] s = itself s
 lines_beside (entry ∷ log) s =
-    then_ (told_beside entry (told_by entry) (object_of s.base entry) s) (lines_beside log (with_line entry s))
+    then_ (told_beside entry (told_by entry) (object_of s.base entry) s) (lines_beside log (with_log_line entry s))
 
 -- ---- what is kept
 
-opened_kept : (base : Base) (log : List LogEntry) → last_time log < time_limit → IsKept (opened base log)
+opened_kept : (base : Base) (log : List LogEntry) → last_time log < time_limit → IsKept (opening_state base log)
 opened_kept base log below =
     let beside = lines_beside log (all_pending base) in
     record {
@@ -97,7 +97,7 @@ opened_kept base log below =
       ids = record { downtimes = rw beside.downtimes tt; comments = rw beside.comments tt };
     }
 
-pub opened_keeps : (base : Base) (log : List LogEntry) (live : LiveState) → state_of live ≡ opened base log → last_time log < time_limit → IsSound base
+pub opened_keeps : (base : Base) (log : List LogEntry) (live : LiveState) → state_of live ≡ opening_state base log → last_time log < time_limit → IsSound base
     → AreTold live.told (arc_value live.base) live.log.entries → KeepsAll live 0
 opened_keeps base log live same below sound told =
     let beside = lines_beside log (all_pending base) in

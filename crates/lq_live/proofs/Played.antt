@@ -8,15 +8,15 @@ use Rattle.lq_events.specs.declared.log_entry.LogEntry.{LogEntry}
 use Rattle.lq_events.specs.declared.status.Downtime.{Downtime}
 use Rattle.lq_events.specs.declared.status.Status.{Status}
 use Rattle.lq_events.specs.declared.update.Update.{Update}
-use Rattle.lq_log.specs.Written.{written}
+use Rattle.lq_log.specs.Written.{entry_of_form}
 use Rattle.lq_log.specs.declared.written.DowntimeChange.{DowntimeChange}
 use Rattle.lq_log.specs.declared.written.DowntimeChange.TheVariants as downtime_change
 use Rattle.lq_log.specs.declared.written.Form.TheVariants as form
 use Rattle.lq_live.specs.State.{LineNames, State, names_of, object_status}
 use Rattle.lq_live.specs.Results.{Attempt, check_attempt, differs, ends_acknowledgement, is_ok, most_code, status_after}
-use Rattle.lq_live.specs.Downtimes.{Event, after, crosses, depth, due, happen, happen_all, line_if, only_if}
-use Rattle.lq_live.specs.Effects.{AcknowledgeProblem, AddComment, CheckResult, Command, DelComment, DelDowntime, DisableNotifications, DisableNotificationsOf, EnableNotifications, EnableNotificationsOf, NewComment, NewDowntime, RemoveAcknowledgement, ScheduleDowntime, Unknown, acknowledge_in, add_line, alert_line, check_result, command_of, comment_of, downtime_of, effect_of, holds, is_named, is_taken, remove_found, result_of, schedule, take_result, when}
-use Rattle.lq_live.specs.Edits.{line_edits, make_edit, play_edits, settled}
+use Rattle.lq_live.specs.Downtimes.{Event, downtimes_after, crosses, depth, due, happen, happen_all, line_if, only_if}
+use Rattle.lq_live.specs.Effects.{AcknowledgeProblem, AddComment, CheckResult, Command, DelComment, DelDowntime, DisableNotifications, DisableNotificationsOf, EnableNotifications, EnableNotificationsOf, NewComment, NewDowntime, RemoveAcknowledgement, ScheduleDowntime, Unknown, acknowledge_in, add_line, alert_line, with_check_result, command_of_act, comment_of, downtime_of, effect_of, holds_object, has_id_and_kind, is_taken, remove_found, result_of, schedule, take_result, when}
+use Rattle.lq_live.specs.Edits.{line_edits, make_edit, play_edits, downtimes_at}
 use Rattle.lq_live.specs.Ids.{HasRisingIds}
 use Rattle.lq_live.specs.Kept.{AllOrdered, at_second}
 use Rattle.lq_live.specs.Order.{after_all, due_lines}
@@ -43,8 +43,8 @@ happened : (events : List Event) (s : State)
 happened [] s = ap (λ log. record s { log = log }) (sym (append-nil s.log))
 happened (event ∷ events) s =
     happened events (happen event s)
-    ∙ ap (λ log. record s { downtimes = after_all events (after event s.downtimes); log = log })
-    (append_assoc s.log _ (due_lines s.base events (after event s.downtimes)))
+    ∙ ap (λ log. record s { downtimes = after_all events (downtimes_after event s.downtimes); log = log })
+    (append_assoc s.log _ (due_lines s.base events (downtimes_after event s.downtimes)))
 
 -- a state before its command, its fields beside the old ones
 abbrev pub ready_by : State → Update → State
@@ -52,14 +52,14 @@ ready_by s update =
     let second : ℕ = second_after s update in
     record s {
       now = second;
-      downtimes = settled second s.downtimes;
-      log = (s.log ++ due_lines s.base (due second s.downtimes) s.downtimes) ++ written second (form.External update.text) ∷ [];
+      downtimes = downtimes_at second s.downtimes;
+      log = (s.log ++ due_lines s.base (due second s.downtimes) s.downtimes) ++ entry_of_form second (form.External update.text) ∷ [];
     }
 
 pub ready_is : (s : State) (update : Update) → HasRisingIds s → AllOrdered s.downtimes → ready s update ≡ ready_by s update
 ready_is s update ids order =
     let second : ℕ = second_after s update in
-    ap (add_line (written second (form.External update.text)))
+    ap (add_line (entry_of_form second (form.External update.text)))
     (happened (due second s.downtimes) (record s { now = second }))
     ∙ ap (λ downtimes. record (ready_by s update) { downtimes = downtimes }) (due_settled second s.next_downtime s.downtimes ids.downtimes order)
 
@@ -101,7 +101,7 @@ status_same (object.Host id) s log = refl
 status_same (object.Service id) s log = refl
 
 check_plays : (object : Object) (code : ℕ) (output : List ℕ) (s : State) (log : List LogEntry)
-    → play_edits (check_edits object code output s) (logged s log) ≡ check_result object code output (logged s log)
+    → play_edits (check_edits object code output s) (logged s log) ≡ with_check_result object code output (logged s log)
 check_plays object code output s log =
     if_plays (nat_le code (most_code object)) (result_edits s.now s.base object (pos code) output (names_of s.base object) (object_status s object)) _ (logged s log)
     (ap (λ old. play_edits (result_edits s.now s.base object (pos code) output (names_of s.base object) old) (logged s log)) (status_same object s log)
@@ -123,27 +123,27 @@ change_plays change object changed edit s log =
 schedule_plays : (new : NewDowntime) (s : State) (log : List LogEntry)
     → play_edits (effect_edits (ScheduleDowntime new) s) (logged s log) ≡ schedule new (logged s log)
 schedule_plays new s log =
-    if_plays (holds s.base new.object && is_taken s.now new) _ _ (logged s log)
+    if_plays (holds_object s.base new.object && is_taken s.now new) _ _ (logged s log)
     (change_plays downtime_change.Started new.object (s.downtimes ++ downtime_of new s ∷ []) (edit.AddDowntime (downtime_of new s)) s log)
 
 remove_plays : (found : Option Downtime) (kind : ObjectKind) (id : ℕ) (s : State) (log : List LogEntry)
     → play_edits (remove_found_edits found kind id s) (logged s log) ≡ remove_found found kind id (logged s log)
 remove_plays None kind id s log = refl
 remove_plays (Some found) kind id s log =
-    change_plays downtime_change.Cancelled found.object (filter (λ downtime. not (is_named kind id downtime.id downtime.object)) s.downtimes) (edit.RemoveDowntime kind id) s log
+    change_plays downtime_change.Cancelled found.object (filter (λ downtime. not (has_id_and_kind kind id downtime.id downtime.object)) s.downtimes) (edit.RemoveDowntime kind id) s log
 
 effect_plays : (command : Command) (s : State) (log : List LogEntry) → play_edits (effect_edits command s) (logged s log) ≡ effect_of command (logged s log)
 effect_plays (CheckResult object code output) s log = check_plays object code output s log
-effect_plays (AddComment object new) s log = alone_plays (holds s.base object) (edit.AddComment (comment_of 1 object new s)) _ _ refl
+effect_plays (AddComment object new) s log = alone_plays (holds_object s.base object) (edit.AddComment (comment_of 1 object new s)) _ _ refl
 effect_plays (DelComment kind id) s log = refl
 effect_plays (AcknowledgeProblem object sticky new) s log =
     acknowledge_plays (object_status s object) object sticky new s log
     ∙ ap (λ old. acknowledge_in old object sticky new (logged s log)) (status_same object s log)
-effect_plays (RemoveAcknowledgement object) s log = if_plays (holds s.base object) _ _ _ refl
+effect_plays (RemoveAcknowledgement object) s log = if_plays (holds_object s.base object) _ _ _ refl
 effect_plays (ScheduleDowntime new) s log = schedule_plays new s log
-effect_plays (DelDowntime kind id) s log = remove_plays (find (λ downtime. is_named kind id downtime.id downtime.object) s.downtimes) kind id s log
-effect_plays (EnableNotificationsOf object) s log = alone_plays (holds s.base object) (edit.SetNotifications object 1) _ _ refl
-effect_plays (DisableNotificationsOf object) s log = alone_plays (holds s.base object) (edit.SetNotifications object 0) _ _ refl
+effect_plays (DelDowntime kind id) s log = remove_plays (find (λ downtime. has_id_and_kind kind id downtime.id downtime.object) s.downtimes) kind id s log
+effect_plays (EnableNotificationsOf object) s log = alone_plays (holds_object s.base object) (edit.SetNotifications object 1) _ _ refl
+effect_plays (DisableNotificationsOf object) s log = alone_plays (holds_object s.base object) (edit.SetNotifications object 0) _ _ refl
 effect_plays EnableNotifications s log = refl
 effect_plays DisableNotifications s log = refl
 effect_plays Unknown s log = refl
@@ -152,10 +152,10 @@ effect_plays Unknown s log = refl
 
 -- the step, from the edits of the effect
 pub step_by : (s : State) (update : Update) → HasRisingIds s → AllOrdered s.downtimes
-    → play_edits (effect_edits (command_of update.act) (at_second (second_after s update) s)) (ready_by s update) ≡ step s update
+    → play_edits (effect_edits (command_of_act update.act) (at_second (second_after s update) s)) (ready_by s update) ≡ step s update
 step_by s update ids order =
-    effect_plays (command_of update.act) (at_second (second_after s update) s) (ready_by s update).log
-    ∙ ap (effect_of (command_of update.act)) (sym (ready_is s update ids order))
+    effect_plays (command_of_act update.act) (at_second (second_after s update) s) (ready_by s update).log
+    ∙ ap (effect_of (command_of_act update.act)) (sym (ready_is s update ids order))
 
 pub edits_played : (s : State) (update : Update) → HasRisingIds s → AllOrdered s.downtimes
     → play_edits (edits_at (second_after s update) s update) s ≡ step s update
@@ -163,8 +163,8 @@ unfolding advance_edits
 edits_played s update ids order =
     let second : ℕ = second_after s update in
     let lines : List LogEntry = due_lines s.base (due second s.downtimes) s.downtimes in
-    let line : Edit = edit.Line (written second (form.External update.text)) in
-    let changes : List Edit = effect_edits (command_of update.act) (at_second second s) in
+    let line : Edit = edit.Line (entry_of_form second (form.External update.text)) in
+    let changes : List Edit = effect_edits (command_of_act update.act) (at_second second s) in
     play_append (line_edits lines) (line ∷ changes) (at_second second s)
     ∙ ap (play_edits (line ∷ changes)) (lines_played lines (at_second second s))
     ∙ step_by s update ids order

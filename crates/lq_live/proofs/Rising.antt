@@ -10,8 +10,8 @@ use Rattle.lq_log.specs.declared.written.DowntimeChange.{DowntimeChange}
 use Rattle.lq_log.specs.declared.written.Form.TheVariants as form
 use Rattle.lq_log.proofs.LineLemmas.{written_of_line}
 use Rattle.lq_live.specs.State.{LineNames, names_of}
-use Rattle.lq_live.specs.Downtimes.{Event, after, change_of, crosses, depth, downtime_line, due, end_of, event_order, line_if, moments, only_if, put_in, sorted, start_of}
-use Rattle.lq_live.specs.Edits.{line_edits, line_in}
+use Rattle.lq_live.specs.Downtimes.{Event, downtimes_after, change_of, crosses, depth, downtime_line, due, end_of, event_order, line_if, moments, only_if, put_in, sort_by, start_of}
+use Rattle.lq_live.specs.Edits.{line_edits, line_of_edit}
 use Rattle.lq_live.specs.Order.{LinesUpTo, Rising, Within, due_lines, event_lines}
 use Rattle.lq_live.specs.Kept.{AllFrom, IsFrom, MayFollow, Timely, time_behind}
 use Rattle.lq_live.specs.declared.edit.Edit.{Edit}
@@ -41,10 +41,10 @@ put_rising low high event (first ∷ events) above below rising =
     put_by low high event first events (is_gt (event_order event first)) refl above below rising
     (λ later. put_rising first.moment high event events later below rising.2)
 
-sorted_rising : (low high : ℕ) (events : List Event) → Within low high events → Rising low high (sorted event_order events)
+sorted_rising : (low high : ℕ) (events : List Event) → Within low high events → Rising low high (sort_by event_order events)
 sorted_rising low high [] within = tt
 sorted_rising low high (event ∷ events) within =
-    put_rising low high event (sorted event_order events) within.0 within.1 (sorted_rising low high events within.2)
+    put_rising low high event (sort_by event_order events) within.0 within.1 (sorted_rising low high events within.2)
 
 -- ---- what is due lies between the present second and the next
 
@@ -85,7 +85,7 @@ later_by low high (Some entry) edits above may timely rest = ((omega (arith, abo
 pub timely_later : (low high : ℕ) (edits : List Edit) → low ≤ high → Timely high edits → Timely low edits
 timely_later low high [] above timely = tt
 timely_later low high (edit ∷ edits) above timely =
-    later_by low high (line_in edit) edits above timely.0 timely.1 (λ rest. timely_later low high edits above rest)
+    later_by low high (line_of_edit edit) edits above timely.0 timely.1 (λ rest. timely_later low high edits above rest)
 
 moment_timely : (low moment : ℕ) (test : Bool) (change : DowntimeChange) (names : Option LineNames) (rest : List Edit) → low ≤ moment → moment < time_limit
     → Timely moment rest → Timely low (line_edits (line_if test moment change names) ++ rest)
@@ -104,10 +104,10 @@ pub due_timely : (low high : ℕ) (base : Base) (events : List Event) (ds : List
     → Timely high rest → Timely low (line_edits (due_lines base events ds) ++ rest)
 due_timely low high base [] ds rest rising above below timely = timely_later low high rest above timely
 due_timely low high base (event ∷ events) ds rest rising above below timely =
-    rw (lines_append (event_lines base event ds) (due_lines base events (after event ds)) rest)
-    (moment_timely low event.moment (crosses (depth event.object ds) (depth event.object (after event ds))) (change_of event) (names_of base event.object)
-    (line_edits (due_lines base events (after event ds)) ++ rest) rising.0 (omega (arith, rising.1, below))
-    (due_timely event.moment high base events (after event ds) rest rising.2 rising.1 below timely))
+    rw (lines_append (event_lines base event ds) (due_lines base events (downtimes_after event ds)) rest)
+    (moment_timely low event.moment (crosses (depth event.object ds) (depth event.object (downtimes_after event ds))) (change_of event) (names_of base event.object)
+    (line_edits (due_lines base events (downtimes_after event ds)) ++ rest) rising.0 (omega (arith, rising.1, below))
+    (due_timely event.moment high base events (downtimes_after event ds) rest rising.2 rising.1 below timely))
 
 -- no line of theirs is past the second
 line_up_to : (second moment : ℕ) (test : Bool) (change : DowntimeChange) (names : Option LineNames) (rest : List LogEntry) → moment ≤ second → LinesUpTo second rest
@@ -120,5 +120,5 @@ line_up_to second moment true change (Some names) rest below all = (below, all)
 pub due_lines_up_to : (low high : ℕ) (base : Base) (events : List Event) (ds : List Downtime) → Rising low high events → LinesUpTo high (due_lines base events ds)
 due_lines_up_to low high base [] ds rising = tt
 due_lines_up_to low high base (event ∷ events) ds rising =
-    line_up_to high event.moment (crosses (depth event.object ds) (depth event.object (after event ds))) (change_of event) (names_of base event.object)
-    (due_lines base events (after event ds)) rising.1 (due_lines_up_to event.moment high base events (after event ds) rising.2)
+    line_up_to high event.moment (crosses (depth event.object ds) (depth event.object (downtimes_after event ds))) (change_of event) (names_of base event.object)
+    (due_lines base events (downtimes_after event ds)) rising.1 (due_lines_up_to event.moment high base events (downtimes_after event ds) rising.2)

@@ -7,7 +7,7 @@ use Rattle.std.proofs.lemmas.Cmp.{alike_right, tied_itself, upto}
 use Rattle.std.proofs.lemmas.List.Elements.{recursion_from_All, All-from_recursion}
 use Rattle.std.proofs.lemmas.List.Sorted.{All-permutation, IsPermutation-refl, IsPermutation-cons, IsPermutation-sym, IsPermutation-trans, IsPermutation-middle, sum_by-IsPermutation}
 use Rattle.std.proofs.lemmas.List.Sums.{sum_by-cons}
-use Rattle.lq_live.specs.Downtimes.{put_in, sorted}
+use Rattle.lq_live.specs.Downtimes.{put_in, sort_by}
 
 all_weaker : {X : Type 0} (P Q : X → Type 0) → ((x : X) → P x → Q x) → (xs : List X) → AllByRecursion P xs → AllByRecursion Q xs
 all_weaker P Q weaker [] all = tt
@@ -33,7 +33,7 @@ module _ {X : Type 0} (order : X → X → Ordering) (total : IsTotalOrder order
   all_put P item (x ∷ xs) is all =
       elim (is_gt (order item x)) as (λ b. AllByRecursion P (cond b (x ∷ put_in order item xs) (item ∷ x ∷ xs))) [ true ↦ (all.0, all_put P item xs is all.1) | false ↦ (is, all) ]
 
-  pub all_sorted : (P : X → Type 0) (xs : List X) → AllByRecursion P xs → AllByRecursion P (sorted order xs)
+  pub all_sorted : (P : X → Type 0) (xs : List X) → AllByRecursion P xs → AllByRecursion P (sort_by order xs)
   all_sorted P [] all = tt
   all_sorted P (x ∷ xs) all = all_put P x _ all.0 (all_sorted P xs all.1)
 
@@ -45,9 +45,9 @@ module _ {X : Type 0} (order : X → X → Ordering) (total : IsTotalOrder order
       by true is rest = (all_put (AtMost x) item xs (ap is_gt (total.antisymm x item) ∙ greater_back (order item x) is) up.0, rest)
       by false is rest = ((is, all_weaker (AtMost x) (AtMost item) (λ z later. upto total item x z is later) xs up.0), up)
 
-  pub ascending_sorted : (xs : List X) → Ascending (sorted order xs)
+  pub ascending_sorted : (xs : List X) → Ascending (sort_by order xs)
   ascending_sorted [] = tt
-  ascending_sorted (x ∷ xs) = ascending_put x (sorted order xs) (ascending_sorted xs)
+  ascending_sorted (x ∷ xs) = ascending_put x (sort_by order xs) (ascending_sorted xs)
 
   same_put : (item : X) (xs : List X) → IsPermutation (item ∷ xs) (put_in order item xs)
   same_put item [] = IsPermutation-refl _
@@ -57,9 +57,9 @@ module _ {X : Type 0} (order : X → X → Ordering) (total : IsTotalOrder order
         | false ↦ IsPermutation-refl _
       ]
 
-  pub same_sorted : (xs : List X) → IsPermutation xs (sorted order xs)
+  pub same_sorted : (xs : List X) → IsPermutation xs (sort_by order xs)
   same_sorted [] = IsPermutation-refl []
-  same_sorted (x ∷ xs) = IsPermutation-trans _ _ _ (IsPermutation-cons x _ _ (same_sorted xs)) (same_put x (sorted order xs))
+  same_sorted (x ∷ xs) = IsPermutation-trans _ _ _ (IsPermutation-cons x _ _ (same_sorted xs)) (same_put x (sort_by order xs))
 
   -- ---- what passes a test, in order
 
@@ -89,12 +89,12 @@ module _ {X : Type 0} (order : X → X → Ordering) (total : IsTotalOrder order
           (all_filter (AtMost item) test (x ∷ xs) (above, all_weaker (AtMost x) (AtMost item) (λ z later. upto total item x z above later) xs up.0))))
       by false false first above passes _ rest = rw (above, passes) refl
 
-  pub sorted_kept : (test : X → Bool) (xs : List X) → filter test (sorted order xs) ≡ sorted order (filter test xs)
+  pub sorted_kept : (test : X → Bool) (xs : List X) → filter test (sort_by order xs) ≡ sort_by order (filter test xs)
   sorted_kept test [] = refl
-  sorted_kept test (x ∷ xs) = put_kept test x (sorted order xs) (ascending_sorted xs) ∙ by (test x) refl (sorted_kept test xs)
+  sorted_kept test (x ∷ xs) = put_kept test x (sort_by order xs) (ascending_sorted xs) ∙ by (test x) refl (sorted_kept test xs)
     where
-      by : (passes : Bool) → test x ≡ passes → filter test (sorted order xs) ≡ sorted order (filter test xs)
-          → cond (test x) (put_in order x (filter test (sorted order xs))) (filter test (sorted order xs)) ≡ sorted order (filter test (x ∷ xs))
+      by : (passes : Bool) → test x ≡ passes → filter test (sort_by order xs) ≡ sort_by order (filter test xs)
+          → cond (test x) (put_in order x (filter test (sort_by order xs))) (filter test (sort_by order xs)) ≡ sort_by order (filter test (x ∷ xs))
       by true is rest = rw is (ap (put_in order x) rest)
       by false is rest = rw is rest
 
@@ -159,9 +159,9 @@ module _ {X : Type 0} (order : X → X → Ordering) (total : IsTotalOrder order
             ap₂ ◌∷◌ head (rest (λ f. omega (arith, sum_by-cons f x xs, sum_by-cons f y ys, ap f head, same f)))
         by Greater is rest = absurd (no_lesser y x ys xs (total.antisymm y x ∙ ap ordering_reverse is) up.0 (λ f. sym (same f)))
 
-    pub is_sorted : (xs ys : List X) → AllByRecursion P xs → IsPermutation xs ys → IsSorted order ys → ys ≡ sorted order xs
+    pub is_sorted : (xs ys : List X) → AllByRecursion P xs → IsPermutation xs ys → IsSorted order ys → ys ≡ sort_by order xs
     is_sorted xs ys all same order_of =
-        one_order ys (sorted order xs)
+        one_order ys (sort_by order xs)
         (recursion_from_All P ys (All-permutation P xs ys same (All-from_recursion P xs all)))
         (all_sorted P xs all) (ascending_from ys order_of) (ascending_sorted xs)
-        (λ f. sum_by-IsPermutation f xs ys same ∙ sym (sum_by-IsPermutation f xs (sorted order xs) (same_sorted xs)))
+        (λ f. sum_by-IsPermutation f xs ys same ∙ sym (sum_by-IsPermutation f xs (sort_by order xs) (same_sorted xs)))

@@ -1,5 +1,6 @@
 -- How the code works: how many downtimes of each object are active, counted for one step.
-use Rattle.std.specs.Prelude.{◌≡◌, ℕ, ◌+◌, ◌-◌, ◌&&◌, Bool, Option, List, length, if◌then◌else◌, IfSome}
+use Rattle.std.specs.Prelude.{◌≡◌, ℕ, ◌+◌, ◌-◌, ◌&&◌, Bool, Option, List, length, if◌then◌else◌}
+use Rattle.std.specs.Prelude.{IfSome}
 use Rattle.std.specs.List.{slice_get}
 use Rattle.lq_records.specs.declared.base.Base.{Base}
 use Rattle.lq_records.specs.declared.object.Object.{Object}
@@ -24,14 +25,14 @@ counted_depth depths (object.Host id) = slice_get depths.hosts id.0
 counted_depth depths (object.Service id) = slice_get depths.services id.0
 
 -- one more where a downtime begins, and else one fewer
-abbrev pub moved : Bool → ℕ → ℕ
-moved begins number = if begins then number + 1 else number - 1
+abbrev pub changed_depth : Bool → ℕ → ℕ
+changed_depth begins number = if begins then number + 1 else number - 1
 
 abbrev pub with_depth : Bool → Object → Depths → Depths
 with_depth begins (object.Host id) depths =
-    record depths { hosts = changed_at (moved begins) id.0 depths.hosts }
+    record depths { hosts = changed_at (changed_depth begins) id.0 depths.hosts }
 with_depth begins (object.Service id) depths =
-    record depths { services = changed_at (moved begins) id.0 depths.services }
+    record depths { services = changed_at (changed_depth begins) id.0 depths.services }
 
 -- each object of the base has the number of its active downtimes
 pub record AreDepths (base : Base) (downtimes : List Downtime) (depths : Depths) : Type 0 where

@@ -1,12 +1,14 @@
 -- The moments at which downtimes begin and end, and the lines that are written then.
-use Rattle.std.specs.Prelude.{ℕ, ◌≡◌, ◌≤◌, ◌==◌, ◌&&◌, ◌||◌, not, nat_le, nat_lt, Bool, true, false, Option, Some, None, List, [], ◌∷◌, ◌++◌, length, map, filter, flat_map, if◌then◌else◌}
+use Rattle.std.specs.Prelude.{ℕ, ◌≡◌, ◌≤◌, ◌==◌, ◌&&◌, ◌||◌, not, nat_le, nat_lt, Bool, true, false}
+use Rattle.std.specs.Prelude.{Option, Some, None, List, [], ◌∷◌, ◌++◌, length, map, filter}
+use Rattle.std.specs.Prelude.{flat_map, if◌then◌else◌}
 use Rattle.std.specs.List.{AllAdjacentBelow}
 use Rattle.std.specs.List.Sorted.{IsPermutation}
 use Rattle.std.specs.declared.cmp.Ordering.{Ordering}
 use Rattle.std.specs.Ordering.{bool_cmp, is_gt, nat_cmp, ordering_then}
 use Rattle.lq_events.specs.declared.log_entry.LogEntry.{LogEntry}
 use Rattle.lq_events.specs.declared.status.Downtime.{Downtime}
-use Rattle.lq_log.specs.Written.{written}
+use Rattle.lq_log.specs.Written.{entry_of_form}
 use Rattle.lq_log.specs.declared.written.DowntimeChange.{DowntimeChange}
 use Rattle.lq_log.specs.declared.written.DowntimeChange.TheVariants as downtime_change
 use Rattle.lq_log.specs.declared.written.Form.TheVariants as form
@@ -69,9 +71,9 @@ put_in order item (first ∷ items) =
     if is_gt (order item first) then first ∷ put_in order item items else item ∷ first ∷ items
 
 -- any items in any order
-abbrev pub sorted : {X : Type 0} → (X → X → Ordering) → List X → List X
-sorted order [] = []
-sorted order (item ∷ items) = put_in order item (sorted order items)
+abbrev pub sort_by : {X : Type 0} → (X → X → Ordering) → List X → List X
+sort_by order [] = []
+sort_by order (item ∷ items) = put_in order item (sort_by order items)
 
 -- by moment, ends before starts, then by id
 abbrev pub event_order : Event → Event → Ordering
@@ -80,7 +82,7 @@ event_order a b =
     (ordering_then (bool_cmp a.starts b.starts) (nat_cmp a.id b.id))
 
 unfoldable pub due : ℕ → List Downtime → List Event
-due second downtimes = sorted event_order (flat_map (moments second) downtimes)
+due second downtimes = sort_by event_order (flat_map (moments second) downtimes)
 
 -- ---- what an event leaves
 
@@ -88,8 +90,8 @@ abbrev pub begin : ℕ → Downtime → Downtime
 begin id downtime = if downtime.id == id then record downtime { active = true } else downtime
 
 -- a start makes its downtime active, an end removes it
-abbrev pub after : Event → List Downtime → List Downtime
-after event downtimes =
+abbrev pub downtimes_after : Event → List Downtime → List Downtime
+downtimes_after event downtimes =
     if event.starts then map (begin event.id) downtimes
     else filter (λ downtime. not (downtime.id == event.id)) downtimes
 
@@ -109,7 +111,7 @@ crosses before later = (before == 0 && nat_lt 0 later) || (nat_lt 0 before && la
 -- a line says that an object's downtime has `STARTED`, `STOPPED` or been `CANCELLED`
 unfoldable pub downtime_line : ℕ → DowntimeChange → LineNames → LogEntry
 downtime_line moment change names =
-    written moment (form.Downtime names.host names.service change)
+    entry_of_form moment (form.Downtime names.host names.service change)
 
 abbrev pub line_if : Bool → ℕ → DowntimeChange → Option LineNames → List LogEntry
 line_if test moment change None = []
@@ -134,7 +136,8 @@ change_of event = if event.starts then downtime_change.Started else downtime_cha
 -- the line of an event carries its moment
 abbrev pub happen : Event → State → State
 happen event s =
-    change_downtimes event.moment (change_of event) event.object (after event s.downtimes) s
+    change_downtimes event.moment (change_of event) event.object
+    (downtimes_after event s.downtimes) s
 
 abbrev pub happen_all : List Event → State → State
 happen_all [] s = s

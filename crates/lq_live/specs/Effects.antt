@@ -1,5 +1,7 @@
 -- What each external command changes in a state.
-use Rattle.std.specs.Prelude.{ℕ, ℤ, pos, ◌+◌, ◌==◌, ◌&&◌, not, nat_lt, nat_le, Bool, true, false, Option, Some, None, List, [], ◌∷◌, ◌++◌, length, filter, if◌then◌else◌}
+use Rattle.std.specs.Prelude.{ℕ, ℤ, pos, ◌+◌, ◌==◌, ◌&&◌, not, nat_lt, nat_le, Bool, true, false}
+use Rattle.std.specs.Prelude.{Option, Some, None, List, [], ◌∷◌, ◌++◌, length, filter}
+use Rattle.std.specs.Prelude.{if◌then◌else◌}
 use Rattle.std.specs.List.{before_first, find}
 use Rattle.lq_records.specs.declared.base.Base.{Base}
 use Rattle.lq_events.specs.declared.log_entry.LogEntry.{LogEntry}
@@ -13,21 +15,22 @@ use Rattle.lq_records.specs.declared.object.ObjectKind.TheVariants as object_kin
 use Rattle.lq_records.specs.Object.{is_same_kind, is_same_object, kind_of}
 use Rattle.lq_events.specs.declared.update.Act.{Act}
 use Rattle.lq_events.specs.declared.update.Act.TheVariants as act
-use Rattle.lq_log.specs.Written.{written}
+use Rattle.lq_log.specs.Written.{entry_of_form}
 use Rattle.lq_log.specs.declared.written.DowntimeChange.TheVariants as downtime_change
 use Rattle.lq_log.specs.declared.written.Form.TheVariants as form
 use Rattle.lq_live.specs.State.{State, LineNames, names_of, object_status, with_status}
-use Rattle.lq_live.specs.Results.{Attempt, check_attempt, most_code, differs, ends_acknowledgement, status_after, is_ok, is_bar}
+use Rattle.lq_live.specs.Results.{Attempt, check_attempt, most_code, differs, ends_acknowledgement}
+use Rattle.lq_live.specs.Results.{status_after, is_ok, is_bar}
 use Rattle.lq_live.specs.Downtimes.{change_downtimes}
 
 -- whether the base holds an object
-abbrev pub holds : Base → Object → Bool
-holds base (object.Host id) = nat_lt id.0 (length base.hosts)
-holds base (object.Service id) = nat_lt id.0 (length base.services)
+abbrev pub holds_object : Base → Object → Bool
+holds_object base (object.Host id) = nat_lt id.0 (length base.hosts)
+holds_object base (object.Service id) = nat_lt id.0 (length base.services)
 
 -- whether it has an id and is about an object of a kind
-abbrev pub is_named : ObjectKind → ℕ → ℕ → Object → Bool
-is_named kind id own_id object = own_id == id && is_same_kind (kind_of object) kind
+abbrev pub has_id_and_kind : ObjectKind → ℕ → ℕ → Object → Bool
+has_id_and_kind kind id own_id object = own_id == id && is_same_kind (kind_of object) kind
 
 abbrev pub add_line : LogEntry → State → State
 add_line entry s = record s { log = s.log ++ entry ∷ [] }
@@ -62,7 +65,7 @@ add_comment comment s =
 -- the comment of an object of a kind that has an id
 abbrev pub remove_comment : ObjectKind → ℕ → State → State
 remove_comment kind id s = record s {
-  comments = filter (λ comment. not (is_named kind id comment.id comment.object)) s.comments;
+  comments = filter (λ comment. not (has_id_and_kind kind id comment.id comment.object)) s.comments;
 }
 
 -- 0 none, 1 normal, 2 sticky
@@ -94,7 +97,7 @@ acknowledge object sticky given s = acknowledge_in (object_status s object) obje
 
 abbrev pub remove_acknowledgement : Object → State → State
 remove_acknowledgement object s =
-    when (holds s.base object)
+    when (holds_object s.base object)
     (λ s. end_acknowledgement object (with_status (acknowledge_as 0) object s))
     s
 
@@ -102,7 +105,7 @@ remove_acknowledgement object s =
 
 unfoldable pub alert_line : ℕ → LineNames → Attempt → ℤ → List ℕ → LogEntry
 alert_line now names attempt new output =
-    written now
+    entry_of_form now
     (form.Alert names.host names.service new attempt.hard attempt.number
     (before_first is_bar output))
 
@@ -119,8 +122,8 @@ result_of object new output (Some names) None s = s
 result_of object new output (Some names) (Some old) s =
     take_result object names (check_attempt s.base object new old) new output old s
 
-abbrev pub check_result : Object → ℕ → List ℕ → State → State
-check_result object code output s =
+abbrev pub with_check_result : Object → ℕ → List ℕ → State → State
+with_check_result object code output s =
     if nat_le code (most_code object)
     then result_of object (pos code) output (names_of s.base object) (object_status s object) s
     else s
@@ -165,27 +168,28 @@ add_downtime downtime s =
 
 abbrev pub schedule : NewDowntime → State → State
 schedule asked s =
-    when (holds s.base asked.object && is_taken s.now asked) (add_downtime (downtime_of asked s)) s
+    when (holds_object s.base asked.object && is_taken s.now asked)
+    (add_downtime (downtime_of asked s)) s
 
 abbrev pub remove_found : Option Downtime → ObjectKind → ℕ → State → State
 remove_found None kind id s = s
 remove_found (Some found) kind id s =
     change_downtimes s.now downtime_change.Cancelled found.object
-    (filter (λ downtime. not (is_named kind id downtime.id downtime.object)) s.downtimes)
+    (filter (λ downtime. not (has_id_and_kind kind id downtime.id downtime.object)) s.downtimes)
     s
 
 -- the downtime of an object of a kind that has an id
 abbrev pub remove_downtime : ObjectKind → ℕ → State → State
 remove_downtime kind id s =
     remove_found
-    (find (λ downtime. is_named kind id downtime.id downtime.object) s.downtimes)
+    (find (λ downtime. has_id_and_kind kind id downtime.id downtime.object) s.downtimes)
     kind id s
 
 -- ---- notifications
 
 abbrev pub notify_of : Object → ℕ → State → State
 notify_of object on s =
-    when (holds s.base object)
+    when (holds_object s.base object)
     (with_status (λ status. record status { notifications_enabled = on }) object)
     s
 
@@ -206,28 +210,29 @@ pub data Command : Type 0 where
   DisableNotifications : Command
   Unknown : Command
 
-abbrev pub comment_in : ℕ → List ℕ → List ℕ → NewComment
-comment_in persistent author text =
+abbrev pub comment_of_fields : ℕ → List ℕ → List ℕ → NewComment
+comment_of_fields persistent author text =
     record { persistent = persistent; author = author; text = text }
 
-abbrev pub command_of : Act → Command
-command_of (act.ProcessHostCheckResult host code output) =
+abbrev pub command_of_act : Act → Command
+command_of_act (act.ProcessHostCheckResult host code output) =
     CheckResult (object.Host host) code output
-command_of (act.ProcessServiceCheckResult service code output) =
+command_of_act (act.ProcessServiceCheckResult service code output) =
     CheckResult (object.Service service) code output
-command_of (act.AddHostComment host persistent author text) =
-    AddComment (object.Host host) (comment_in persistent author text)
-command_of (act.AddSvcComment service persistent author text) =
-    AddComment (object.Service service) (comment_in persistent author text)
-command_of (act.DelHostComment id) = DelComment object_kind.Host id
-command_of (act.DelSvcComment id) = DelComment object_kind.Service id
-command_of (act.AcknowledgeHostProblem host sticky notify persistent author text) =
-    AcknowledgeProblem (object.Host host) sticky (comment_in persistent author text)
-command_of (act.AcknowledgeSvcProblem service sticky notify persistent author text) =
-    AcknowledgeProblem (object.Service service) sticky (comment_in persistent author text)
-command_of (act.RemoveHostAcknowledgement host) = RemoveAcknowledgement (object.Host host)
-command_of (act.RemoveSvcAcknowledgement service) = RemoveAcknowledgement (object.Service service)
-command_of (act.ScheduleHostDowntime host start end fixed trigger duration author text) =
+command_of_act (act.AddHostComment host persistent author text) =
+    AddComment (object.Host host) (comment_of_fields persistent author text)
+command_of_act (act.AddSvcComment service persistent author text) =
+    AddComment (object.Service service) (comment_of_fields persistent author text)
+command_of_act (act.DelHostComment id) = DelComment object_kind.Host id
+command_of_act (act.DelSvcComment id) = DelComment object_kind.Service id
+command_of_act (act.AcknowledgeHostProblem host sticky notify persistent author text) =
+    AcknowledgeProblem (object.Host host) sticky (comment_of_fields persistent author text)
+command_of_act (act.AcknowledgeSvcProblem service sticky notify persistent author text) =
+    AcknowledgeProblem (object.Service service) sticky (comment_of_fields persistent author text)
+command_of_act (act.RemoveHostAcknowledgement host) = RemoveAcknowledgement (object.Host host)
+command_of_act (act.RemoveSvcAcknowledgement service) =
+    RemoveAcknowledgement (object.Service service)
+command_of_act (act.ScheduleHostDowntime host start end fixed trigger duration author text) =
     ScheduleDowntime
     (record {
       object = object.Host host;
@@ -239,7 +244,7 @@ command_of (act.ScheduleHostDowntime host start end fixed trigger duration autho
       author = author;
       text = text;
     })
-command_of (act.ScheduleSvcDowntime service start end fixed trigger duration author text) =
+command_of_act (act.ScheduleSvcDowntime service start end fixed trigger duration author text) =
     ScheduleDowntime
     (record {
       object = object.Service service;
@@ -251,20 +256,21 @@ command_of (act.ScheduleSvcDowntime service start end fixed trigger duration aut
       author = author;
       text = text;
     })
-command_of (act.DelHostDowntime id) = DelDowntime object_kind.Host id
-command_of (act.DelSvcDowntime id) = DelDowntime object_kind.Service id
-command_of (act.EnableHostNotifications host) = EnableNotificationsOf (object.Host host)
-command_of (act.DisableHostNotifications host) = DisableNotificationsOf (object.Host host)
-command_of (act.EnableSvcNotifications service) = EnableNotificationsOf (object.Service service)
-command_of (act.DisableSvcNotifications service) = DisableNotificationsOf (object.Service service)
-command_of act.EnableNotifications = EnableNotifications
-command_of act.DisableNotifications = DisableNotifications
-command_of act.Unknown = Unknown
+command_of_act (act.DelHostDowntime id) = DelDowntime object_kind.Host id
+command_of_act (act.DelSvcDowntime id) = DelDowntime object_kind.Service id
+command_of_act (act.EnableHostNotifications host) = EnableNotificationsOf (object.Host host)
+command_of_act (act.DisableHostNotifications host) = DisableNotificationsOf (object.Host host)
+command_of_act (act.EnableSvcNotifications service) = EnableNotificationsOf (object.Service service)
+command_of_act (act.DisableSvcNotifications service) =
+    DisableNotificationsOf (object.Service service)
+command_of_act act.EnableNotifications = EnableNotifications
+command_of_act act.DisableNotifications = DisableNotifications
+command_of_act act.Unknown = Unknown
 
 abbrev pub effect_of : Command → State → State
-effect_of (CheckResult object code output) s = check_result object code output s
+effect_of (CheckResult object code output) s = with_check_result object code output s
 effect_of (AddComment object given) s =
-    when (holds s.base object) (add_comment (comment_of 1 object given s)) s
+    when (holds_object s.base object) (add_comment (comment_of 1 object given s)) s
 effect_of (DelComment kind id) s = remove_comment kind id s
 effect_of (AcknowledgeProblem object sticky given) s = acknowledge object sticky given s
 effect_of (RemoveAcknowledgement object) s = remove_acknowledgement object s
@@ -277,4 +283,4 @@ effect_of DisableNotifications s = record s { notifications = false }
 effect_of Unknown s = s
 
 abbrev pub effect : Act → State → State
-effect act s = effect_of (command_of act) s
+effect act s = effect_of (command_of_act act) s

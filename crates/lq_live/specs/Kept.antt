@@ -1,5 +1,6 @@
 -- The state that the code holds, and what it keeps.
-use Rattle.std.specs.Prelude.{◌≡◌, ℕ, ◌+◌, ◌-◌, min, if◌then◌else◌, ◌<◌, ◌≤◌, ◌^◌, true, false, Option, Some, None, List, [], ◌∷◌, length, vec_len, vec_capacity}
+use Rattle.std.specs.Prelude.{◌≡◌, ℕ, ◌+◌, ◌-◌, min, if◌then◌else◌, ◌<◌, ◌≤◌, ◌^◌, true, false}
+use Rattle.std.specs.Prelude.{Option, Some, None, List, [], ◌∷◌, length, vec_len, vec_capacity}
 use Rattle.std.specs.Arc.{arc_value}
 use Rattle.lq_events.specs.declared.log_entry.LogEntry.{LogEntry}
 use Rattle.lq_events.specs.declared.status.Downtime.{Downtime}
@@ -7,7 +8,7 @@ use Rattle.lq_records.specs.Sound.{IsSound}
 use Rattle.lq_log.specs.Book.{last_time, time_limit}
 use Rattle.lq_log.specs.Entries.{IsOfLine}
 use Rattle.lq_live.specs.State.{State}
-use Rattle.lq_live.specs.Edits.{line_in, settled}
+use Rattle.lq_live.specs.Edits.{line_of_edit, downtimes_at}
 use Rattle.lq_live.specs.Ids.{HasRisingIds}
 use Rattle.lq_live.specs.LastTold.{AreTold}
 use Rattle.lq_live.specs.declared.live_state.LiveState.{LiveState}
@@ -29,7 +30,7 @@ state_of live = record {
 
 -- a state whose second has moved, and in which all that is due then has happened
 abbrev pub at_second : ℕ → State → State
-at_second second s = record s { now = second; downtimes = settled second s.downtimes }
+at_second second s = record s { now = second; downtimes = downtimes_at second s.downtimes }
 
 abbrev pub state_at : ℕ → LiveState → State
 state_at second live = at_second second (state_of live)
@@ -50,9 +51,9 @@ abbrev pub next_of : Downtime → ℕ
 next_of downtime = if downtime.active then downtime.end else min downtime.start downtime.end
 
 -- the first of several downtimes
-abbrev pub first_of : List Downtime → ℕ
-first_of [] = 2 ^ 64 - 1
-first_of (downtime ∷ downtimes) = min (first_of downtimes) (next_of downtime)
+abbrev pub earliest_second : List Downtime → ℕ
+earliest_second [] = 2 ^ 64 - 1
+earliest_second (downtime ∷ downtimes) = min (earliest_second downtimes) (next_of downtime)
 
 -- each downtime begins before it ends
 abbrev pub AllOrdered : List Downtime → Type 0
@@ -110,7 +111,7 @@ time_behind last (Some entry) = entry.time
 abbrev pub Timely : ℕ → List Edit → Type 0
 Timely last [] = Unit {0}
 Timely last (edit ∷ edits) =
-    MayFollow last (line_in edit) × Timely (time_behind last (line_in edit)) edits
+    MayFollow last (line_of_edit edit) × Timely (time_behind last (line_of_edit edit)) edits
 
 -- so many edits find their room
 pub record HasRoom (live : LiveState) (n : ℕ) : Type 0 where

@@ -24,16 +24,16 @@ where_told entry _ _ s = s
 
 -- a state or alert line about an object of the base changes that object's status, and any other
 -- line changes nothing
-abbrev pub with_line : LogEntry → State → State
-with_line entry s = where_told entry (told_by entry) (object_of s.base entry) s
+abbrev pub with_log_line : LogEntry → State → State
+with_log_line entry s = where_told entry (told_by entry) (object_of s.base entry) s
 
 -- the lines of a log in their order
 abbrev pub with_lines : List LogEntry → State → State
 with_lines [] s = s
-with_lines (entry ∷ log) s = with_lines log (with_line entry s)
+with_lines (entry ∷ log) s = with_lines log (with_log_line entry s)
 
 -- Each object is pending, and then the lines of the log are recorded. The present second is that of
 -- the last line, 0 without one.
-abbrev pub opened : Base → List LogEntry → State
-opened base log =
+abbrev pub opening_state : Base → List LogEntry → State
+opening_state base log =
     record (with_lines log (all_pending base)) { log = log; now = last_time log }

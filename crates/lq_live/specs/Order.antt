@@ -6,8 +6,8 @@ use Rattle.lq_events.specs.declared.status.Downtime.{Downtime}
 use Rattle.lq_log.specs.Book.{time_limit}
 use Rattle.lq_log.specs.Entries.{IsOfLine}
 use Rattle.lq_live.specs.State.{names_of}
-use Rattle.lq_live.specs.Downtimes.{Event, after, crosses, depth, line_if, change_of}
-use Rattle.lq_live.specs.Edits.{line_in}
+use Rattle.lq_live.specs.Downtimes.{Event, downtimes_after, crosses, depth, line_if, change_of}
+use Rattle.lq_live.specs.Edits.{line_of_edit}
 use Rattle.lq_live.specs.Kept.{IsFrom}
 use Rattle.lq_live.specs.declared.edit.Edit.{Edit}
 use Rattle.lq_live.specs.declared.edit.Edit.TheVariants as edit
@@ -16,17 +16,18 @@ use Rattle.lq_live.specs.declared.edit.Edit.TheVariants as edit
 
 abbrev pub after_all : List Event → List Downtime → List Downtime
 after_all [] downtimes = downtimes
-after_all (event ∷ events) downtimes = after_all events (after event downtimes)
+after_all (event ∷ events) downtimes = after_all events (downtimes_after event downtimes)
 
 abbrev pub event_lines : Base → Event → List Downtime → List LogEntry
 event_lines base event downtimes =
-    line_if (crosses (depth event.object downtimes) (depth event.object (after event downtimes)))
+    line_if (crosses (depth event.object downtimes)
+    (depth event.object (downtimes_after event downtimes)))
     event.moment (change_of event) (names_of base event.object)
 
 abbrev pub due_lines : Base → List Event → List Downtime → List LogEntry
 due_lines base [] downtimes = []
 due_lines base (event ∷ events) downtimes =
-    event_lines base event downtimes ++ due_lines base events (after event downtimes)
+    event_lines base event downtimes ++ due_lines base events (downtimes_after event downtimes)
 
 -- ---- in what order
 
@@ -69,7 +70,7 @@ ChangeAt second _ = Unit {0}
 
 -- an edit of a command's effect: its line is of that second
 abbrev pub EditAt : ℕ → Edit → Type 0
-EditAt second edit = LineAt second (line_in edit) × ChangeAt second edit
+EditAt second edit = LineAt second (line_of_edit edit) × ChangeAt second edit
 
 abbrev pub EditsAt : ℕ → List Edit → Type 0
 EditsAt second [] = Unit {0}

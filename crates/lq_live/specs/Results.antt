@@ -1,5 +1,6 @@
 -- What a check result changes: type and attempt, alert line, acknowledgement and status.
-use Rattle.std.specs.Prelude.{ℕ, ℤ, pos, ◌+◌, ◌==◌, ◌&&◌, ◌||◌, not, nat_le, min, Bool, true, false, List, if◌then◌else◌}
+use Rattle.std.specs.Prelude.{ℕ, ℤ, pos, ◌+◌, ◌==◌, ◌&&◌, ◌||◌, not, nat_le, min, Bool, true, false}
+use Rattle.std.specs.Prelude.{List, if◌then◌else◌}
 use Rattle.std.specs.List.{before_first, after_first, slice_get}
 use Rattle.std.specs.Option.{option_map_or}
 use Rattle.std.specs.Ordering.{int_eq}

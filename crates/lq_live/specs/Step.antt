@@ -1,7 +1,7 @@
 -- One step of a state for each update.
 use Rattle.std.specs.Prelude.{ℕ, min, max}
 use Rattle.lq_events.specs.declared.update.Update.{Update}
-use Rattle.lq_log.specs.Written.{written}
+use Rattle.lq_log.specs.Written.{entry_of_form}
 use Rattle.lq_log.specs.declared.written.Form.TheVariants as form
 use Rattle.lq_live.specs.State.{State}
 use Rattle.lq_live.specs.Downtimes.{due, happen_all}
@@ -22,7 +22,7 @@ advance_to second s = happen_all (due second s.downtimes) (record s { now = seco
 -- the second moves on, and the line of the external command is written
 abbrev pub ready : State → Update → State
 ready s update =
-    add_line (written (second_after s update) (form.External update.text))
+    add_line (entry_of_form (second_after s update) (form.External update.text))
     (advance_to (second_after s update) s)
 
 -- then the command takes effect

@@ -1,5 +1,6 @@
 -- How the code works: the edits of a step, which are made from the state before it.
-use Rattle.std.specs.Prelude.{◌≡◌, ℕ, ℤ, pos, ◌==◌, ◌&&◌, nat_le, Bool, true, false, Option, Some, None, List, [], ◌∷◌, ◌++◌, filter, not, if◌then◌else◌}
+use Rattle.std.specs.Prelude.{◌≡◌, ℕ, ℤ, pos, ◌==◌, ◌&&◌, nat_le, Bool, true, false, Option, Some}
+use Rattle.std.specs.Prelude.{None, List, [], ◌∷◌, ◌++◌, filter, not, if◌then◌else◌}
 use Rattle.std.specs.List.{find}
 use Rattle.lq_records.specs.declared.base.Base.{Base}
 use Rattle.lq_records.specs.declared.object.Object.{Object}
@@ -9,14 +10,20 @@ use Rattle.lq_events.specs.declared.status.Downtime.{Downtime}
 use Rattle.lq_events.specs.declared.update.Act.{Act}
 use Rattle.lq_events.specs.declared.update.Act.TheVariants as act
 use Rattle.lq_events.specs.declared.update.Update.{Update}
-use Rattle.lq_log.specs.Written.{written}
+use Rattle.lq_log.specs.Written.{entry_of_form}
 use Rattle.lq_log.specs.declared.written.DowntimeChange.{DowntimeChange}
 use Rattle.lq_log.specs.declared.written.DowntimeChange.TheVariants as downtime_change
 use Rattle.lq_log.specs.declared.written.Form.TheVariants as form
 use Rattle.lq_live.specs.State.{LineNames, State, names_of, object_status}
-use Rattle.lq_live.specs.Results.{Attempt, check_attempt, most_code, differs, ends_acknowledgement, is_ok, status_after}
+use Rattle.lq_live.specs.Results.{Attempt, check_attempt, most_code, differs, ends_acknowledgement}
+use Rattle.lq_live.specs.Results.{is_ok, status_after}
 use Rattle.lq_live.specs.Downtimes.{crosses, depth, due, line_if, only_if}
-use Rattle.lq_live.specs.Effects.{AcknowledgeProblem, AddComment, CheckResult, Command, DelComment, DelDowntime, DisableNotifications, DisableNotificationsOf, EnableNotifications, EnableNotificationsOf, NewComment, NewDowntime, RemoveAcknowledgement, ScheduleDowntime, Unknown, alert_line, command_of, comment_of, downtime_of, holds, is_named, is_taken}
+use Rattle.lq_live.specs.Effects.{AcknowledgeProblem, AddComment, CheckResult, Command, DelComment}
+use Rattle.lq_live.specs.Effects.{DelDowntime, DisableNotifications, DisableNotificationsOf}
+use Rattle.lq_live.specs.Effects.{EnableNotifications, EnableNotificationsOf, NewComment}
+use Rattle.lq_live.specs.Effects.{NewDowntime, RemoveAcknowledgement, ScheduleDowntime, Unknown}
+use Rattle.lq_live.specs.Effects.{alert_line, command_of_act, comment_of, downtime_of, holds_object}
+use Rattle.lq_live.specs.Effects.{has_id_and_kind, is_taken}
 use Rattle.lq_live.specs.Step.{second_after}
 use Rattle.lq_live.specs.Edits.{line_edits}
 use Rattle.lq_live.specs.Order.{due_lines}
@@ -60,7 +67,7 @@ check_edits object code output s =
 
 abbrev pub comment_edits : Object → NewComment → State → List Edit
 comment_edits object given s =
-    only_if (holds s.base object) (edit.AddComment (comment_of 1 object given s))
+    only_if (holds_object s.base object) (edit.AddComment (comment_of 1 object given s))
 
 abbrev pub acknowledge_edits_in : Option Status → Object → ℕ → NewComment → State → List Edit
 acknowledge_edits_in None object sticky given s = []
@@ -75,7 +82,7 @@ acknowledge_edits object sticky given s =
 
 abbrev pub remove_acknowledgement_edits : Object → State → List Edit
 remove_acknowledgement_edits object s =
-    if holds s.base object
+    if holds_object s.base object
     then edit.SetAcknowledgement object 0 ∷ edit.EndAcknowledgement object ∷ []
     else []
 
@@ -102,7 +109,7 @@ change_edits change object changed s =
 
 abbrev pub schedule_edits : NewDowntime → State → List Edit
 schedule_edits asked s =
-    if holds s.base asked.object && is_taken s.now asked
+    if holds_object s.base asked.object && is_taken s.now asked
     then change_edits downtime_change.Started asked.object
     (s.downtimes ++ downtime_of asked s ∷ []) s
     ++ edit.AddDowntime (downtime_of asked s) ∷ []
@@ -112,19 +119,19 @@ abbrev pub remove_found_edits : Option Downtime → ObjectKind → ℕ → State
 remove_found_edits None kind id s = []
 remove_found_edits (Some found) kind id s =
     change_edits downtime_change.Cancelled found.object
-    (filter (λ downtime. not (is_named kind id downtime.id downtime.object)) s.downtimes) s
+    (filter (λ downtime. not (has_id_and_kind kind id downtime.id downtime.object)) s.downtimes) s
     ++ edit.RemoveDowntime kind id ∷ []
 
 abbrev pub remove_downtime_edits : ObjectKind → ℕ → State → List Edit
 remove_downtime_edits kind id s =
     remove_found_edits
-    (find (λ downtime. is_named kind id downtime.id downtime.object) s.downtimes)
+    (find (λ downtime. has_id_and_kind kind id downtime.id downtime.object) s.downtimes)
     kind id s
 
 -- ---- notifications
 
 abbrev pub notify_edits : Object → ℕ → State → List Edit
-notify_edits object on s = only_if (holds s.base object) (edit.SetNotifications object on)
+notify_edits object on s = only_if (holds_object s.base object) (edit.SetNotifications object on)
 
 -- ---- the commands
 
@@ -144,7 +151,7 @@ effect_edits Unknown s = []
 
 -- the same of the state that the code holds
 abbrev pub effect_in : ℕ → LiveState → Act → List Edit
-effect_in second live act = effect_edits (command_of act) (state_at second live)
+effect_in second live act = effect_edits (command_of_act act) (state_at second live)
 
 -- ---- a step
 
@@ -156,8 +163,8 @@ advance_edits base second downtimes =
 abbrev pub edits_at : ℕ → State → Update → List Edit
 edits_at second s update =
     edit.Now second ∷ advance_edits s.base second s.downtimes
-    ++ edit.Line (written second (form.External update.text))
-    ∷ effect_edits (command_of update.act) (at_second second s)
+    ++ edit.Line (entry_of_form second (form.External update.text))
+    ∷ effect_edits (command_of_act update.act) (at_second second s)
 
 unfoldable pub step_edits : State → Update → List Edit
 step_edits s update = edits_at (second_after s update) s update

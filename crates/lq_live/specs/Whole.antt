@@ -14,8 +14,8 @@ whole_told entry hard old =
     record (status_told entry hard old) { plugin_output = entry.output; perf_data = [] }
 
 -- the status whose output is parted
-abbrev pub parted : Status → Status
-parted status = record status {
+abbrev pub with_parted_output : Status → Status
+with_parted_output status = record status {
   plugin_output = before_first is_bar status.plugin_output;
   perf_data = after_first is_bar status.plugin_output;
 }
@@ -23,6 +23,6 @@ parted status = record status {
 -- the state whose outputs are parted
 abbrev pub all_parted : State → State
 all_parted s = record s {
-  host_status = map parted s.host_status;
-  service_status = map parted s.service_status;
+  host_status = map with_parted_output s.host_status;
+  service_status = map with_parted_output s.service_status;
 }

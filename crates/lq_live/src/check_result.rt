@@ -4,9 +4,11 @@ ghost use Rattle.std.specs.List.{before_first};
 ghost use Rattle.lq_live.specs.Downtimes.{only_if};
 ghost use Rattle.lq_live.specs.Effects.{alert_line};
 ghost use Rattle.lq_live.specs.Kept.{state_at};
-ghost use Rattle.lq_live.specs.Results.{check_attempt, differs, ends_acknowledgement, hard_at, most_attempts, most_code, service_attempt};
+ghost use Rattle.lq_live.specs.Results.{check_attempt, differs, ends_acknowledgement, hard_at};
+ghost use Rattle.lq_live.specs.Results.{most_attempts, most_code, service_attempt};
 ghost use Rattle.lq_live.specs.State.{line_names, names_of, object_status};
-ghost use Rattle.lq_live.specs.StepEdits.{Adds, attempt_of, check_edits, effect_in, is_of_checks, known_edits, result_edits};
+ghost use Rattle.lq_live.specs.StepEdits.{Adds, attempt_of, check_edits, effect_in, is_of_checks};
+ghost use Rattle.lq_live.specs.StepEdits.{known_edits, result_edits};
 ghost use Rattle.lq_live.specs.declared.edit.Edit.TheVariants as edit;
 
 use crate::context::StepContext;

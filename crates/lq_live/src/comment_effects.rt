@@ -1,7 +1,9 @@
 ghost use Rattle.std.specs.Prelude.{◌≡◌, ◌++◌, true, IfOk, OnOk};
-ghost use Rattle.lq_live.specs.Effects.{comment_in, comment_of};
+ghost use Rattle.lq_live.specs.Effects.{comment_of_fields, comment_of};
 ghost use Rattle.lq_live.specs.Kept.{state_at};
-ghost use Rattle.lq_live.specs.StepEdits.{Adds, acknowledge_edits, acknowledge_edits_in, comment_edits, effect_in, is_of_acknowledgements, is_of_comments, remove_acknowledgement_edits};
+ghost use Rattle.lq_live.specs.StepEdits.{Adds, acknowledge_edits, acknowledge_edits_in};
+ghost use Rattle.lq_live.specs.StepEdits.{comment_edits, effect_in, is_of_acknowledgements};
+ghost use Rattle.lq_live.specs.StepEdits.{is_of_comments, remove_acknowledgement_edits};
 
 use crate::comments::{ACKNOWLEDGEMENT_COMMENT, USER_COMMENT};
 use crate::context::StepContext;
@@ -82,10 +84,11 @@ impl<'a> StepContext<'a> {
         comment: NewComment<'_>,
     ) -> Result<(), Memory>
         ensures { OnOk result (Adds edits.old.items edits.new.items (comment_edits object
-            (comment_in comment.entry.persistent comment.entry.author.now comment.entry.text.now)
+            (comment_of_fields comment.entry.persistent comment.entry.author.now
+            comment.entry.text.now)
             (state_at self.entry.second self.entry.live.now))) }
     {
-        if !self.holds(object) {
+        if !self.holds_object(object) {
             return Ok(());
         }
         let comment = self.comment_of(USER_COMMENT, object, comment)?;
@@ -148,7 +151,7 @@ impl<'a> StepContext<'a> {
         given: Acknowledgement<'_>,
     ) -> Result<(), Memory>
         ensures { OnOk result (Adds edits.old.items edits.new.items (acknowledge_edits object
-            given.entry.sticky (comment_in given.entry.comment.persistent
+            given.entry.sticky (comment_of_fields given.entry.comment.persistent
             given.entry.comment.author.now given.entry.comment.text.now)
             (state_at self.entry.second self.entry.live.now))) }
     {
@@ -169,7 +172,7 @@ impl<'a> StepContext<'a> {
         ensures { OnOk result (Adds edits.old.items edits.new.items (remove_acknowledgement_edits
             object (state_at self.entry.second self.entry.live.now))) }
     {
-        if !self.holds(object) {
+        if !self.holds_object(object) {
             return Ok(());
         }
         edits.push(Edit::SetAcknowledgement(object, 0))?;
@@ -185,7 +188,8 @@ impl<'a> StepContext<'a> {
         comment: NewComment<'_>,
     ) -> Result<Comment, Memory>
         ensures { IfOk result (λ made. made ≡ comment_of entry_type object
-            (comment_in comment.entry.persistent comment.entry.author.now comment.entry.text.now)
+            (comment_of_fields comment.entry.persistent comment.entry.author.now
+            comment.entry.text.now)
             (state_at self.entry.second self.entry.live.now)) }
     {
         let author = Text::new(self.alloc, comment.author)?;

@@ -1,5 +1,5 @@
 ghost use Rattle.std.specs.Prelude.{◌≡◌, ◌≤◌, filter, not, vec_capacity, vec_len};
-ghost use Rattle.lq_live.specs.Effects.{goes_with_acknowledgement, is_named};
+ghost use Rattle.lq_live.specs.Effects.{goes_with_acknowledgement, has_id_and_kind};
 
 use lq_events::Comment;
 use lq_records::{Object, ObjectKind};
@@ -31,16 +31,16 @@ fn goes_with_acknowledgement(object: Object, comment: &Comment) -> bool
 /// Removes the comment that has an id, of an object of a kind.
 pub(crate) fn remove(comments: &mut Vec<Comment>, kind: ObjectKind, id: u64)
     ensures kept { comments.new.items ≡ filter
-        (λ comment. not (is_named kind id comment.id comment.object)) comments.old.items }
+        (λ comment. not (has_id_and_kind kind id comment.id comment.object)) comments.old.items }
     ensures capacity { vec_capacity comments.new ≡ vec_capacity comments.old }
     ensures shorter { vec_len comments.new ≤ vec_len comments.old }
 {
-    comments.retain(|comment| !is_named(kind, id, comment.id, comment.object));
+    comments.retain(|comment| !has_id_and_kind(kind, id, comment.id, comment.object));
 }
 
 /// Whether something has an id and is about an object of a kind.
-pub(crate) fn is_named(kind: ObjectKind, id: u64, own_id: u64, object: Object) -> bool
-    ensures { result ≡ is_named kind id own_id object }
+pub(crate) fn has_id_and_kind(kind: ObjectKind, id: u64, own_id: u64, object: Object) -> bool
+    ensures { result ≡ has_id_and_kind kind id own_id object }
 {
     own_id == id && object.kind().is_same(kind)
 }

@@ -1,12 +1,12 @@
 ghost use Rattle.std.specs.Prelude.{◌≡◌};
 ghost use Rattle.std.specs.Arc.{arc_value};
 ghost use Rattle.std.specs.Option.{option_copied, option_map};
-ghost use Rattle.lq_live.specs.Effects.{holds};
+ghost use Rattle.lq_live.specs.Effects.{holds_object};
 ghost use Rattle.lq_live.specs.Kept.{state_of};
 ghost use Rattle.lq_live.specs.State.{line_names, names_of, object_status};
 
 use crate::live_state::LiveState;
-use crate::names::{ObjectName, holds, names_of};
+use crate::names::{ObjectName, holds_object, names_of};
 use lq_events::Status;
 use lq_records::Object;
 use std::alloc::Global;
@@ -22,10 +22,10 @@ pub(crate) struct StepContext<'a> {
 
 impl<'a> StepContext<'a> {
     /// Whether the base holds an object.
-    pub(crate) fn holds(self, object: Object) -> bool
-        ensures { result ≡ holds (arc_value self.entry.live.now.base) object }
+    pub(crate) fn holds_object(self, object: Object) -> bool
+        ensures { result ≡ holds_object (arc_value self.entry.live.now.base) object }
     {
-        holds(&self.live.base, object)
+        holds_object(&self.live.base, object)
     }
 
     /// How a line names an object. None where the base doesn't hold it.

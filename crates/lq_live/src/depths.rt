@@ -1,6 +1,6 @@
 ghost use Rattle.std.specs.Prelude.{◌≡◌, ◌+◌, ◌<◌, ◌≤◌, ◌^◌, IfOk, IfSome, if◌then◌else◌, true};
 ghost use Rattle.std.specs.List.{slice_get};
-ghost use Rattle.lq_live.specs.Depths.{AreDepths, counted_depth, moved, with_depth};
+ghost use Rattle.lq_live.specs.Depths.{AreDepths, counted_depth, changed_depth, with_depth};
 ghost use Rattle.lq_live.specs.Downtimes.{crosses};
 ghost use Rattle.lq_live.specs.State.{changed_at};
 
@@ -60,7 +60,7 @@ impl Depths {
         requires { IfSome (counted_depth self.old event.now.object) (λ n. n + 1 < 2 ^ 64) }
         ensures changed { self.new ≡ with_depth event.now.starts event.now.object self.old }
         ensures crosses { IfSome (counted_depth self.old event.now.object)
-            (λ n. result ≡ crosses n (moved event.now.starts n)) }
+            (λ n. result ≡ crosses n (changed_depth event.now.starts n)) }
     {
         self.change(event.starts, event.object)
     }
@@ -71,7 +71,7 @@ impl Depths {
         requires { IfSome (counted_depth self.old object) (λ n. n + 1 < 2 ^ 64) }
         ensures changed { self.new ≡ with_depth begins object self.old }
         ensures crosses { IfSome (counted_depth self.old object)
-            (λ n. result ≡ crosses n (moved begins n)) }
+            (λ n. result ≡ crosses n (changed_depth begins n)) }
     {
         match object {
             Object::Host(id) => change_at(&mut self.hosts, begins, id.0 as usize),
@@ -82,22 +82,22 @@ impl Depths {
 
 fn change_at(numbers: &mut [usize], begins: bool, place: usize) -> bool
     requires { IfSome (slice_get numbers.old place) (λ n. n + 1 < 2 ^ 64) }
-    ensures changed { numbers.new ≡ changed_at (moved begins) place numbers.old }
+    ensures changed { numbers.new ≡ changed_at (changed_depth begins) place numbers.old }
     ensures crosses { IfSome (slice_get numbers.old place)
-        (λ n. result ≡ crosses n (moved begins n)) }
+        (λ n. result ≡ crosses n (changed_depth begins n)) }
 {
     if place >= numbers.len() {
         return false;
     }
     let before = numbers[place];
-    let later = moved(begins, before);
+    let later = changed_depth(begins, before);
     numbers[place] = later;
     crosses(before, later)
 }
 
-fn moved(begins: bool, number: usize) -> usize
+fn changed_depth(begins: bool, number: usize) -> usize
     requires { number + 1 < 2 ^ 64 }
-    ensures { result ≡ moved begins number }
+    ensures { result ≡ changed_depth begins number }
 {
     if begins {
         number + 1

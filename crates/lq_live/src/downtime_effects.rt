@@ -2,12 +2,14 @@ ghost use Rattle.std.specs.Prelude.{◌≡◌, ◌++◌, ◌&&◌, filter, not, 
 ghost use Rattle.std.specs.List.{find};
 ghost use Rattle.std.specs.Option.{option_copied, option_map};
 ghost use Rattle.lq_live.specs.Downtimes.{depth};
-ghost use Rattle.lq_live.specs.Edits.{begun_by, ends_after, settled};
-ghost use Rattle.lq_live.specs.Effects.{downtime_of, is_named, is_taken};
+ghost use Rattle.lq_live.specs.Edits.{begun_by, ends_after, downtimes_at};
+ghost use Rattle.lq_live.specs.Effects.{downtime_of, has_id_and_kind, is_taken};
 ghost use Rattle.lq_live.specs.Kept.{state_at};
-ghost use Rattle.lq_live.specs.StepEdits.{Adds, effect_in, is_of_host_downtimes, is_of_service_downtimes, remove_downtime_edits, request_of, schedule_edits};
+ghost use Rattle.lq_live.specs.StepEdits.{Adds, effect_in, is_of_host_downtimes};
+ghost use Rattle.lq_live.specs.StepEdits.{is_of_service_downtimes, remove_downtime_edits};
+ghost use Rattle.lq_live.specs.StepEdits.{request_of, schedule_edits};
 
-use crate::comments::is_named;
+use crate::comments::has_id_and_kind;
 use crate::context::StepContext;
 use crate::depths::crosses;
 use crate::downtimes::{Removal, count_at, count_without};
@@ -123,7 +125,7 @@ impl<'a> StepContext<'a> {
         ensures { OnOk result (Adds edits.old.items edits.new.items (schedule_edits
             (request_of request.entry) (state_at self.entry.second self.entry.live.now))) }
     {
-        if !(self.holds(request.object) && request.is_taken(self.second)) {
+        if !(self.holds_object(request.object) && request.is_taken(self.second)) {
             return Ok(());
         }
         let downtime = self.downtime_of(request)?;
@@ -191,8 +193,8 @@ impl<'a> StepContext<'a> {
     /// The downtime that has an id, of an object of a kind, where it hasn't ended at the second.
     fn find(self, kind: ObjectKind, id: u64) -> Option<&'a Downtime>
         ensures { option_map (begun_by self.entry.second) (option_copied result)
-            ≡ find (λ downtime. is_named kind id downtime.id downtime.object)
-            (settled self.entry.second self.entry.live.now.downtimes.items) }
+            ≡ find (λ downtime. has_id_and_kind kind id downtime.id downtime.object)
+            (downtimes_at self.entry.second self.entry.live.now.downtimes.items) }
     {
         find(&self.live.downtimes, self.second, kind, id)
     }
@@ -200,7 +202,7 @@ impl<'a> StepContext<'a> {
     /// The number of an object's downtimes that are active at the second.
     fn depth(self, object: Object) -> usize
         ensures { result ≡ depth object
-            (settled self.entry.second self.entry.live.now.downtimes.items) }
+            (downtimes_at self.entry.second self.entry.live.now.downtimes.items) }
     {
         count_at(&self.live.downtimes, self.second, object)
     }
@@ -208,8 +210,8 @@ impl<'a> StepContext<'a> {
     /// The same without the downtime that is removed.
     fn depth_without(self, removal: Removal) -> usize
         ensures { result ≡ depth removal.object (filter
-            (λ downtime. not (is_named removal.kind removal.id downtime.id downtime.object))
-            (settled self.entry.second self.entry.live.now.downtimes.items)) }
+            (λ downtime. not (has_id_and_kind removal.kind removal.id downtime.id downtime.object))
+            (downtimes_at self.entry.second self.entry.live.now.downtimes.items)) }
     {
         count_without(&self.live.downtimes, self.second, removal)
     }
@@ -217,10 +219,11 @@ impl<'a> StepContext<'a> {
 
 fn find(downtimes: &[Downtime], second: u64, kind: ObjectKind, id: u64) -> Option<&Downtime>
     ensures { option_copied result ≡ find
-        (λ downtime. ends_after second downtime && is_named kind id downtime.id downtime.object)
+        (λ downtime. ends_after second downtime
+        && has_id_and_kind kind id downtime.id downtime.object)
         downtimes.now }
 {
     downtimes.iter().find(|downtime| {
-        second < downtime.end && is_named(kind, id, downtime.id, downtime.object)
+        second < downtime.end && has_id_and_kind(kind, id, downtime.id, downtime.object)
     })
 }

@@ -1,18 +1,19 @@
-ghost use Rattle.std.specs.Prelude.{◌≡◌, ◌≤◌, ◌&&◌, filter, length, map, not, vec_capacity, vec_len};
+ghost use Rattle.std.specs.Prelude.{◌≡◌, ◌≤◌, ◌&&◌, filter, length, map, not, vec_capacity};
+ghost use Rattle.std.specs.Prelude.{vec_len};
 ghost use Rattle.lq_live.specs.Downtimes.{is_active_of};
-ghost use Rattle.lq_live.specs.Edits.{begun_by, ends_after, settled};
+ghost use Rattle.lq_live.specs.Edits.{begun_by, ends_after, downtimes_at};
 ghost use Rattle.lq_live.specs.Depths.{is_active_at};
-ghost use Rattle.lq_live.specs.Effects.{is_named};
-ghost use Rattle.lq_live.specs.Kept.{AllFrom, IsFrom, first_of, next_of};
+ghost use Rattle.lq_live.specs.Effects.{has_id_and_kind};
+ghost use Rattle.lq_live.specs.Kept.{AllFrom, IsFrom, earliest_second, next_of};
 
-use crate::comments::is_named;
+use crate::comments::has_id_and_kind;
 use lq_events::Downtime;
 use lq_records::{Object, ObjectKind};
 
 /// Lets all happen that is due by a second: the downtimes that have ended go, and those whose start
 /// has come become active.
 pub(crate) fn settle(downtimes: &mut Vec<Downtime>, second: u64)
-    ensures settled { downtimes.new.items ≡ settled second downtimes.old.items }
+    ensures settled { downtimes.new.items ≡ downtimes_at second downtimes.old.items }
     ensures capacity { vec_capacity downtimes.new ≡ vec_capacity downtimes.old }
     ensures shorter { vec_len downtimes.new ≤ vec_len downtimes.old }
 {
@@ -49,11 +50,12 @@ fn begin(downtime: &mut Downtime, second: u64)
 /// Removes the downtime that has an id, of an object of a kind.
 pub(crate) fn remove(downtimes: &mut Vec<Downtime>, kind: ObjectKind, id: u64)
     ensures kept { downtimes.new.items ≡ filter
-        (λ downtime. not (is_named kind id downtime.id downtime.object)) downtimes.old.items }
+        (λ downtime. not (has_id_and_kind kind id downtime.id downtime.object))
+        downtimes.old.items }
     ensures capacity { vec_capacity downtimes.new ≡ vec_capacity downtimes.old }
     ensures shorter { vec_len downtimes.new ≤ vec_len downtimes.old }
 {
-    downtimes.retain(|downtime| !is_named(kind, id, downtime.id, downtime.object));
+    downtimes.retain(|downtime| !has_id_and_kind(kind, id, downtime.id, downtime.object));
 }
 
 /// The number of an object's downtimes that are active at a second.
@@ -77,7 +79,8 @@ pub(crate) struct Removal {
 /// The same number without the downtime that is removed.
 pub(crate) fn count_without(downtimes: &[Downtime], second: u64, removal: Removal) -> usize
     ensures { result ≡ length (filter (λ downtime. is_active_at second removal.object downtime
-        && not (is_named removal.kind removal.id downtime.id downtime.object)) downtimes.now) }
+        && not (has_id_and_kind removal.kind removal.id downtime.id downtime.object))
+        downtimes.now) }
 {
     downtimes
         .iter()
@@ -87,10 +90,10 @@ pub(crate) fn count_without(downtimes: &[Downtime], second: u64, removal: Remova
 
 fn is_left_at(downtime: &Downtime, second: u64, removal: Removal) -> bool
     ensures { result ≡ (is_active_at second removal.object downtime.now
-        && not (is_named removal.kind removal.id downtime.now.id downtime.now.object)) }
+        && not (has_id_and_kind removal.kind removal.id downtime.now.id downtime.now.object)) }
 {
     is_active_at(downtime, second, removal.object)
-        && !is_named(removal.kind, removal.id, downtime.id, downtime.object)
+        && !has_id_and_kind(removal.kind, removal.id, downtime.id, downtime.object)
 }
 
 /// Whether a downtime is one of an object, and active at a second.
@@ -124,11 +127,11 @@ pub(crate) fn next_moment(downtime: &Downtime) -> u64
 pub(crate) fn first_moment(downtimes: &[Downtime]) -> u64
     ensures { AllFrom result downtimes.now }
 {
-    first_of(downtimes)
+    earliest_second(downtimes)
 }
 
-fn first_of(downtimes: &[Downtime]) -> u64
-    ensures { result ≡ first_of downtimes.now }
+fn earliest_second(downtimes: &[Downtime]) -> u64
+    ensures { result ≡ earliest_second downtimes.now }
 {
     let mut first = u64::MAX;
     let mut i = downtimes.len();

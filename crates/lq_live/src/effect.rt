@@ -70,7 +70,7 @@ impl<'a> StepContext<'a> {
         ensures { OnOk result (Adds edits.old.items edits.new.items
             (notify_edits object on (state_at self.entry.second self.entry.live.now))) }
     {
-        if !self.holds(object) {
+        if !self.holds_object(object) {
             return Ok(());
         }
         push(edits, Edit::SetNotifications(object, on))

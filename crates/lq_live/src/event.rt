@@ -1,6 +1,7 @@
 ghost use Rattle.std.specs.Prelude.{◌≡◌, ◌++◌, ◌&&◌, nat_le, not, flat_map, IfOk, OnOk, IsSorted};
 ghost use Rattle.std.specs.List.Sorted.{IsPermutation};
-ghost use Rattle.lq_live.specs.Downtimes.{due, end_of, event_order, moments, only_if, start_of, change_of};
+ghost use Rattle.lq_live.specs.Downtimes.{due, end_of, event_order, moments, only_if, start_of};
+ghost use Rattle.lq_live.specs.Downtimes.{change_of};
 ghost use Rattle.lq_live.specs.Kept.{IsKept, state_of};
 
 use crate::context::StepContext;

@@ -3,7 +3,7 @@ ghost use Rattle.std.specs.List.{slice_get};
 ghost use Rattle.std.specs.Option.{option_copied};
 ghost use Rattle.lq_live.specs.Ids.{IdsRise, comment_id, downtime_id};
 ghost use Rattle.lq_live.specs.Kept.{IsIndexed, state_of};
-ghost use Rattle.lq_live.specs.Opening.{opened};
+ghost use Rattle.lq_live.specs.Opening.{opening_state};
 ghost use Rattle.lq_live.specs.State.{Counted};
 ghost use Rattle.lq_log.specs.Book.{last_time};
 ghost use Rattle.lq_log.specs.LastTold.{is_flapping, is_period_on};
@@ -59,7 +59,7 @@ impl Live {
     pub fn open(alloc: Global, base: Base, log: LogBook) -> Result<Self, Memory>
         requires { IsSound base }
         ensures { IfOk result
-            (λ live. live ≡ record { state = opened base log.entries; count = 0 }) }
+            (λ live. live ≡ record { state = opening_state base log.entries; count = 0 }) }
     {
         let mut state = LiveState::pending(alloc, base)?;
         state.record_lines(alloc, log.entries())?;

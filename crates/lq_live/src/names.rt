@@ -1,7 +1,7 @@
 ghost use Rattle.std.specs.Prelude.{◌≡◌, map};
 ghost use Rattle.std.specs.List.{slice_get};
 ghost use Rattle.std.specs.Option.{option_copied, option_map};
-ghost use Rattle.lq_live.specs.Effects.{holds};
+ghost use Rattle.lq_live.specs.Effects.{holds_object};
 ghost use Rattle.lq_live.specs.State.{line_names, host_in_line, names_of};
 
 use lq_records::{Base, Object, Service, Text};
@@ -51,8 +51,8 @@ fn host_names<'a>(base: &'a Base, place: usize, description: &'a str) -> Option<
 }
 
 /// Whether the base holds an object.
-pub(crate) fn holds(base: &Base, object: Object) -> bool
-    ensures { result ≡ holds base.now object }
+pub(crate) fn holds_object(base: &Base, object: Object) -> bool
+    ensures { result ≡ holds_object base.now object }
 {
     match object {
         Object::Host(id) => (id.0 as usize) < base.hosts.len(),

@@ -3,9 +3,9 @@ ghost use Rattle.std.specs.Arc.{arc_value};
 ghost use Rattle.std.specs.Option.{option_copied};
 ghost use Rattle.lq_live.specs.Kept.{state_of};
 ghost use Rattle.lq_live.specs.LastTold.{AreTold};
-ghost use Rattle.lq_live.specs.Opening.{status_told, with_line, with_lines};
+ghost use Rattle.lq_live.specs.Opening.{status_told, with_log_line, with_lines};
 ghost use Rattle.lq_live.specs.State.{all_pending, object_status, pending, with_status};
-ghost use Rattle.lq_live.specs.Whole.{all_parted, parted, whole_told};
+ghost use Rattle.lq_live.specs.Whole.{all_parted, with_parted_output, whole_told};
 
 use crate::last_told::LastTold;
 use crate::live_state::{LiveState, set_status};
@@ -63,7 +63,7 @@ impl LiveState {
     /// Records a line, where it is a state or alert line about an object. Its output is kept whole.
     fn record_line(&mut self, entry: &LogEntry) -> Result<(), Memory>
         ensures state { OnOk result (all_parted (state_of self.new)
-            ≡ with_line entry.now (all_parted (state_of self.old))) }
+            ≡ with_log_line entry.now (all_parted (state_of self.old))) }
         ensures base { arc_value self.new.base ≡ arc_value self.old.base }
     {
         let Some(Told::State { hard }) = told_by(entry) else {
@@ -133,7 +133,7 @@ fn whole_told(entry: &LogEntry, hard: bool, old: &Status) -> Result<Status, Memo
 
 /// Parts the outputs of statuses.
 fn part_all(alloc: Global, statuses: &mut [Status]) -> Result<(), Memory>
-    ensures { OnOk result (statuses.new ≡ map parted statuses.old) }
+    ensures { OnOk result (statuses.new ≡ map with_parted_output statuses.old) }
 {
     for status in statuses.iter_mut() {
         part(alloc, status)?;
@@ -143,7 +143,7 @@ fn part_all(alloc: Global, statuses: &mut [Status]) -> Result<(), Memory>
 
 /// Parts the output of a status.
 fn part(alloc: Global, status: &mut Status) -> Result<(), Memory>
-    ensures { OnOk result (status.new ≡ parted status.old) }
+    ensures { OnOk result (status.new ≡ with_parted_output status.old) }
 {
     let whole = status.plugin_output.as_str();
     let plugin_output = status.plugin_output.with_end(alloc, before_bar(whole))?;

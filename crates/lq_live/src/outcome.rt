@@ -1,6 +1,7 @@
 ghost use Rattle.std.specs.Prelude.{◌≡◌, ◌&&◌, if◌then◌else◌, IfOk};
 ghost use Rattle.std.specs.List.{before_first, after_first};
-ghost use Rattle.lq_live.specs.Results.{ends_acknowledgement, is_bar, is_first_or_new, is_ok, status_after, type_number};
+ghost use Rattle.lq_live.specs.Results.{ends_acknowledgement, is_bar, is_first_or_new, is_ok};
+ghost use Rattle.lq_live.specs.Results.{status_after, type_number};
 ghost use Rattle.lq_live.specs.StepEdits.{attempt_of};
 
 use lq_events::Status;

@@ -1,6 +1,6 @@
 ghost use Rattle.std.specs.Prelude.{◌≡◌, ◌++◌, OnOk, IfOk};
 ghost use Rattle.std.specs.Arc.{arc_value};
-ghost use Rattle.lq_log.specs.Written.{written};
+ghost use Rattle.lq_log.specs.Written.{entry_of_form};
 ghost use Rattle.lq_log.specs.declared.written.Form.TheVariants as form;
 ghost use Rattle.lq_live.specs.Edits.{play_edits};
 ghost use Rattle.lq_live.specs.Kept.{IsIndexed, IsKept, state_of};
@@ -72,7 +72,7 @@ impl<'a> StepContext<'a> {
     /// The line of an external command.
     fn command_line(self, update: &Update) -> Result<LogEntry, Memory>
         ensures { IfOk result (λ entry. entry
-            ≡ written self.entry.second (form.External update.now.text)) }
+            ≡ entry_of_form self.entry.second (form.External update.now.text)) }
     {
         let form = Form::External {
             text: update.text.clone()?,

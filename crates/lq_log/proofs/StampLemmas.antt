@@ -14,8 +14,8 @@ use Rattle.lq_text.specs.Blanks.{is_blank, without_front}
 use Rattle.lq_text.specs.Numbers.{number_of}
 use Rattle.lq_text.specs.Seconds.{digits_of, has_second, second_of, text_after_second}
 use Rattle.lq_events.specs.declared.log_entry.LogEntry.{LogEntry}
-use Rattle.lq_log.specs.Entries.{entry_of, said}
-use Rattle.lq_log.specs.Written.{downtime_fields, form_text, is_of_host, next_field, object_text, stamped, state_word, type_word, written}
+use Rattle.lq_log.specs.Entries.{entry_of, entry_of_text}
+use Rattle.lq_log.specs.Written.{downtime_fields, form_text, has_no_service, next_field, object_text, line_at_second, state_word, type_word, entry_of_form}
 use Rattle.lq_log.specs.declared.written.Form.{Form}
 use Rattle.lq_log.specs.declared.written.Form.TheVariants as form
 
@@ -108,17 +108,17 @@ text_begins : (form : Form) → without_front (form_text form) ≡ form_text for
 unfolding form_text
 text_begins (form.External text) = refl
 text_begins (form.Alert host service state hard attempt output) =
-    alert_begins (is_of_host service) (object_text host service) (next_field (state_word service state)) (next_field (type_word hard)) (next_field (decimal attempt)) (next_field output)
+    alert_begins (has_no_service service) (object_text host service) (next_field (state_word service state)) (next_field (type_word hard)) (next_field (decimal attempt)) (next_field output)
 text_begins (form.Downtime host service change) =
-    downtime_begins (is_of_host service) (object_text host service) (next_field (downtime_fields service change))
+    downtime_begins (has_no_service service) (object_text host service) (next_field (downtime_fields service change))
 
-stamped_line : (time : ℕ) (text : List ℕ) → line (decimal time) text ≡ stamped time text
-unfolding stamped line
+stamped_line : (time : ℕ) (text : List ℕ) → line (decimal time) text ≡ line_at_second time text
+unfolding line_at_second line
 stamped_line time text = ap (λ rest. 91 ∷ rest) (sym (append_assoc (decimal time) (93 ∷ 32 ∷ []) text))
 
 -- the entry of a form's line, for any message
 of_form : ℕ → Form → List ℕ → LogEntry
-of_form time form message = record (said (form_text form)) { time = time; message = message }
+of_form time form message = record (entry_of_text (form_text form)) { time = time; message = message }
 
 own_line : (time : ℕ) (form : Form) → time < 10 ^ 12 → entry_of (line (decimal time) (form_text form)) 0 ≡ Some (of_form time form (line (decimal time) (form_text form)))
 unfolding of_form
@@ -128,12 +128,12 @@ own_line time form small =
     let short : length (decimal time) ≤ 12 = length-decimal-le 12 time (omega arith) small (omega (arith, small)) in
     let whole : List ℕ = line (decimal time) (form_text form) in
     let later : max time 0 ≡ time = omega arith in
-    ap (option_map (λ second. record (said (text_after_second whole)) { time = max second 0; message = whole })) (line_second (decimal time) (form_text form) says.all some short)
-    ∙ ap (λ second. Some (record (said (text_after_second whole)) { time = max second 0; message = whole })) says.value
-    ∙ ap (λ second. Some (record (said (text_after_second whole)) { time = second; message = whole })) later
-    ∙ ap (λ text. Some (record (said text) { time = time; message = whole })) (line_text (decimal time) (form_text form) says.all ∙ text_begins form)
+    ap (option_map (λ second. record (entry_of_text (text_after_second whole)) { time = max second 0; message = whole })) (line_second (decimal time) (form_text form) says.all some short)
+    ∙ ap (λ second. Some (record (entry_of_text (text_after_second whole)) { time = max second 0; message = whole })) says.value
+    ∙ ap (λ second. Some (record (entry_of_text (text_after_second whole)) { time = second; message = whole })) later
+    ∙ ap (λ text. Some (record (entry_of_text text) { time = time; message = whole })) (line_text (decimal time) (form_text form) says.all ∙ text_begins form)
 
-pub own_text : (time : ℕ) (form : Form) (entry : LogEntry) → time < 10 ^ 12 → entry ≡ written time form → entry_of entry.message 0 ≡ Some entry
+pub own_text : (time : ℕ) (form : Form) (entry : LogEntry) → time < 10 ^ 12 → entry ≡ entry_of_form time form → entry_of entry.message 0 ≡ Some entry
 unfolding of_form
 own_text time form entry small is =
     rw is (subst (λ message. entry_of message 0 ≡ Some (of_form time form message)) (stamped_line time (form_text form)) (own_line time form small))

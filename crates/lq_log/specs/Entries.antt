@@ -1,5 +1,6 @@
 -- The entry of a log line.
-use Rattle.std.specs.Prelude.{◌≡◌, ℕ, pos, max, ◌==◌, ◌&&◌, nat_eq, Option, Some, None, List, [], ◌∷◌, unwrap_or, codes, if◌then◌else◌}
+use Rattle.std.specs.Prelude.{◌≡◌, ℕ, pos, max, ◌==◌, ◌&&◌, nat_eq, Option, Some, None, List, []}
+use Rattle.std.specs.Prelude.{◌∷◌, unwrap_or, codes, if◌then◌else◌}
 use Rattle.std.specs.List.{list_any, starts_with}
 use Rattle.std.specs.Option.{option_map, option_and_then}
 use Rattle.lq_text.specs.Blanks.{is_blank}
@@ -36,20 +37,20 @@ colon = 58
 
 -- what stands before the first colon with a blank after it, and what follows that blank; None where
 -- there is no such colon
-unfoldable pub parted : List ℕ → Option (List ℕ × List ℕ)
-parted [] = None
-parted (byte ∷ []) = None
-parted (byte ∷ next ∷ text) =
+unfoldable pub parts_at_colon : List ℕ → Option (List ℕ × List ℕ)
+parts_at_colon [] = None
+parts_at_colon (byte ∷ []) = None
+parts_at_colon (byte ∷ next ∷ text) =
     if (byte == colon) && is_blank next then Some ([], text)
-    else option_map (λ parts. (byte ∷ parts.0, parts.1)) (parted (next ∷ text))
+    else option_map (λ parts. (byte ∷ parts.0, parts.1)) (parts_at_colon (next ∷ text))
 
 -- what a text of a form says
-abbrev pub filled : List ℕ → LineForm → Option LogEntry
-filled text form = with_fields form.fields text (blank form.class form.kind)
+abbrev pub entry_of_fields : List ℕ → LineForm → Option LogEntry
+entry_of_fields text form = with_fields form.fields text (blank form.class form.kind)
 
 -- the text before the colon is a form's name, the one after it has that form's fields
-abbrev pub formed : List ℕ × List ℕ → Option LogEntry
-formed parts = option_and_then (filled parts.1) (form_named parts.0)
+abbrev pub entry_of_parts : List ℕ × List ℕ → Option LogEntry
+entry_of_parts parts = option_and_then (entry_of_fields parts.1) (form_named parts.0)
 
 -- ---- other texts
 
@@ -69,15 +70,16 @@ other text =
 
 -- What a text says. One with a form's name and not its fields says no more than a text without a
 -- form.
-unfoldable pub said : List ℕ → LogEntry
-said text = unwrap_or (option_and_then formed (parted text)) (other text)
+unfoldable pub entry_of_text : List ℕ → LogEntry
+entry_of_text text = unwrap_or (option_and_then entry_of_parts (parts_at_colon text)) (other text)
 
 -- the entry of a line, by the time of the entry before it; None where no second in brackets stands
 -- at its front
 abbrev pub entry_of : List ℕ → ℕ → Option LogEntry
 entry_of line before =
     option_map
-    (λ second. record (said (text_after_second line)) { time = max second before; message = line })
+    (λ second. record (entry_of_text (text_after_second line))
+    { time = max second before; message = line })
     (second_of line)
 
 -- An entry that a line gives after some time: the line is its message, and after the entry's own

@@ -1,5 +1,7 @@
 -- The fields of a log line, and what each says.
-use Rattle.std.specs.Prelude.{ℕ, ℤ, pos, ◌-◌, ◌==◌, ◌&&◌, nat_lt, nat_le, Bool, Option, Some, None, List, [], ◌∷◌, length, find, unwrap_or, bytes_eq, codes, slice_index, if◌then◌else◌}
+use Rattle.std.specs.Prelude.{ℕ, ℤ, pos, ◌-◌, ◌==◌, ◌&&◌, nat_lt, nat_le, Bool, Option, Some, None}
+use Rattle.std.specs.Prelude.{List, [], ◌∷◌, length, find, unwrap_or, bytes_eq, codes, slice_index}
+use Rattle.std.specs.Prelude.{if◌then◌else◌}
 use Rattle.std.specs.Char.{is_ascii_digit}
 use Rattle.std.specs.List.{list_any, list_all, before_first, after_first}
 use Rattle.std.specs.Option.{option_map, option_and_then}
@@ -65,8 +67,8 @@ code_of text = pos (slice_index text 0 - digit_0)
 
 -- ---- a field goes into the entry; None where it hasn't its form
 
-abbrev pub where_holds : Bool → LogEntry → Option LogEntry
-where_holds test entry = if test then Some entry else None
+abbrev pub entry_where : Bool → LogEntry → Option LogEntry
+entry_where test entry = if test then Some entry else None
 
 -- a transition keeps its fields in its kind
 abbrev pub with_from : ℤ → Kind → Kind
@@ -86,15 +88,15 @@ with_field entry field.ServiceDescription text = Some (record entry { service = 
 with_field entry field.HostState text = with_state (state_named host_states text) entry
 with_field entry field.ServiceState text = with_state (state_named service_states text) entry
 with_field entry field.StateType text =
-    where_holds (is_one_of state_types text) (record entry { word = text })
+    entry_where (is_one_of state_types text) (record entry { word = text })
 with_field entry field.Attempt text =
-    where_holds (is_attempt text) (record entry { attempt = number_of text })
+    entry_where (is_attempt text) (record entry { attempt = number_of text })
 with_field entry field.Code text =
-    where_holds (is_code text) (record entry { state = code_of text })
+    entry_where (is_code text) (record entry { state = code_of text })
 with_field entry field.DowntimeWord text =
-    where_holds (is_one_of downtime_words text) (record entry { word = text })
+    entry_where (is_one_of downtime_words text) (record entry { word = text })
 with_field entry field.FlappingWord text =
-    where_holds (is_one_of flapping_words text) (record entry { word = text })
+    entry_where (is_one_of flapping_words text) (record entry { word = text })
 with_field entry field.HostWord text =
     Some (record entry { word = text; state = unwrap_or (state_named host_states text) (pos 0) })
 with_field entry field.ServiceWord text =
@@ -116,8 +118,8 @@ with_field entry field.To text =
 abbrev pub is_separator : ℕ → Bool
 is_separator byte = byte == 59
 
-abbrev pub has_separator : List ℕ → Bool
-has_separator text = list_any is_separator text
+abbrev pub has_semicolon : List ℕ → Bool
+has_semicolon text = list_any is_separator text
 
 -- The fields of a text go into the entry in turn: each goes up to its first `;`, the last one takes
 -- the rest. None where one is missing, or hasn't its form.
@@ -125,7 +127,7 @@ abbrev pub with_fields : List Field → List ℕ → LogEntry → Option LogEntr
 with_fields [] text entry = Some entry
 with_fields (field ∷ []) text entry = with_field entry field text
 with_fields (field ∷ next ∷ fields) text entry =
-    if has_separator text
+    if has_semicolon text
     then option_and_then (with_fields (next ∷ fields) (after_first is_separator text))
     (with_field entry field (before_first is_separator text))
     else None

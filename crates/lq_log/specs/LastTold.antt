@@ -1,5 +1,6 @@
 -- What the lines of a log last told of an object's flapping, and of a time period.
-use Rattle.std.specs.Prelude.{ℕ, ◌==◌, ◌&&◌, not, Bool, true, false, Option, Some, None, List, [], length, fold, bytes_eq, unwrap_or, if◌then◌else◌}
+use Rattle.std.specs.Prelude.{ℕ, ◌==◌, ◌&&◌, not, Bool, true, false, Option, Some, None, List, []}
+use Rattle.std.specs.Prelude.{length, fold, bytes_eq, unwrap_or, if◌then◌else◌}
 use Rattle.std.specs.Option.{option_map_or}
 use Rattle.lq_records.specs.Object.{is_same_object}
 use Rattle.lq_records.specs.declared.base.Base.{Base}

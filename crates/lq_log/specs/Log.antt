@@ -1,9 +1,10 @@
 -- What a whole log says: the entries of its lines in order, and how many lines have none.
-use Rattle.std.specs.Prelude.{◌≡◌, ℕ, ◌+◌, not, nat_lt, Bool, Option, Some, None, Result, Ok, Err, List, [], ◌∷◌, length, filter, if◌then◌else◌}
+use Rattle.std.specs.Prelude.{◌≡◌, ℕ, ◌+◌, not, nat_lt, Bool, Option, Some, None, Result, Ok, Err}
+use Rattle.std.specs.Prelude.{List, [], ◌∷◌, length, filter, if◌then◌else◌}
 use Rattle.std.specs.Option.{is_some, option_map_or}
 use Rattle.lq_text.specs.Lines.{lines_of}
 use Rattle.lq_text.specs.Seconds.{second_of}
-use Rattle.lq_records.specs.Clean.{cleaned}
+use Rattle.lq_records.specs.Clean.{text_of_bytes}
 use Rattle.lq_events.specs.declared.log_entry.LogEntry.{LogEntry}
 use Rattle.lq_log.specs.Book.{Book}
 use Rattle.lq_log.specs.Entries.{entry_of}
@@ -42,16 +43,17 @@ time_of entry before = option_map_or (λ (found : LogEntry). found.time) entry b
 abbrev pub entries_after : ℕ → List (List ℕ) → List LogEntry
 entries_after before [] = []
 entries_after before (line ∷ lines) =
-    option_map_or (λ entry. entry ∷ entries_after entry.time lines) (entry_of (cleaned line) before)
+    option_map_or (λ entry. entry ∷ entries_after entry.time lines)
+    (entry_of (text_of_bytes line) before)
     (entries_after before lines)
 
 -- whether a line begins with a second in brackets
-abbrev pub has_second : List ℕ → Bool
-has_second line = is_some (second_of (cleaned line))
+abbrev pub has_clean_second : List ℕ → Bool
+has_clean_second line = is_some (second_of (text_of_bytes line))
 
 -- how many lines have none
 abbrev pub skipped_in : List (List ℕ) → ℕ
-skipped_in lines = length (filter (λ line. not (has_second line)) lines)
+skipped_in lines = length (filter (λ line. not (has_clean_second line)) lines)
 
 -- ---- the whole
 
@@ -69,14 +71,14 @@ abbrev pub log_in : Book → Log
 log_in book = record { entries = book.entries; skipped = book.skipped }
 
 -- a result is what was read, or out of memory
-abbrev pub Reads : Result Book LogErr → Result Log LogErr → Type 0
-Reads (Ok book) read = read ≡ Ok (log_in book)
-Reads (Err (TooManyLines line)) read = read ≡ Err (TooManyLines line)
-Reads (Err (LineTooLong line)) read = read ≡ Err (LineTooLong line)
-Reads (Err (Memory _)) read = Unit {0}
+abbrev pub ReadsLog : Result Book LogErr → Result Log LogErr → Type 0
+ReadsLog (Ok book) read = read ≡ Ok (log_in book)
+ReadsLog (Err (TooManyLines line)) read = read ≡ Err (TooManyLines line)
+ReadsLog (Err (LineTooLong line)) read = read ≡ Err (LineTooLong line)
+ReadsLog (Err (Memory _)) read = Unit {0}
 
 -- an error is the fault of a line, or out of memory
-abbrev pub Tells : LogErr → Option LogErr → Type 0
-Tells (Memory _) fault = Unit {0}
-Tells (TooManyLines line) fault = fault ≡ Some (TooManyLines line)
-Tells (LineTooLong line) fault = fault ≡ Some (LineTooLong line)
+abbrev pub TellsLogFault : LogErr → Option LogErr → Type 0
+TellsLogFault (Memory _) fault = Unit {0}
+TellsLogFault (TooManyLines line) fault = fault ≡ Some (TooManyLines line)
+TellsLogFault (LineTooLong line) fault = fault ≡ Some (LineTooLong line)

@@ -46,22 +46,22 @@ told_by entry = told_as entry entry.kind
 -- ---- which object a line is about
 
 -- whether lines of a form name a host or a service
-abbrev pub subject_of : Kind → Option ObjectKind
-subject_of kind.HostAlert = Some object_kind.Host
-subject_of kind.CurrentHostState = Some object_kind.Host
-subject_of kind.InitialHostState = Some object_kind.Host
-subject_of kind.HostDowntimeAlert = Some object_kind.Host
-subject_of kind.HostFlappingAlert = Some object_kind.Host
-subject_of kind.HostNotification = Some object_kind.Host
-subject_of kind.PassiveHostCheck = Some object_kind.Host
-subject_of kind.ServiceAlert = Some object_kind.Service
-subject_of kind.CurrentServiceState = Some object_kind.Service
-subject_of kind.InitialServiceState = Some object_kind.Service
-subject_of kind.ServiceDowntimeAlert = Some object_kind.Service
-subject_of kind.ServiceFlappingAlert = Some object_kind.Service
-subject_of kind.ServiceNotification = Some object_kind.Service
-subject_of kind.PassiveServiceCheck = Some object_kind.Service
-subject_of _ = None
+abbrev pub form_subject : Kind → Option ObjectKind
+form_subject kind.HostAlert = Some object_kind.Host
+form_subject kind.CurrentHostState = Some object_kind.Host
+form_subject kind.InitialHostState = Some object_kind.Host
+form_subject kind.HostDowntimeAlert = Some object_kind.Host
+form_subject kind.HostFlappingAlert = Some object_kind.Host
+form_subject kind.HostNotification = Some object_kind.Host
+form_subject kind.PassiveHostCheck = Some object_kind.Host
+form_subject kind.ServiceAlert = Some object_kind.Service
+form_subject kind.CurrentServiceState = Some object_kind.Service
+form_subject kind.InitialServiceState = Some object_kind.Service
+form_subject kind.ServiceDowntimeAlert = Some object_kind.Service
+form_subject kind.ServiceFlappingAlert = Some object_kind.Service
+form_subject kind.ServiceNotification = Some object_kind.Service
+form_subject kind.PassiveServiceCheck = Some object_kind.Service
+form_subject _ = None
 
 abbrev pub object_named : Base → LogEntry → Option ObjectKind → Option Object
 object_named base entry None = None
@@ -73,4 +73,4 @@ object_named base entry (Some object_kind.Service) =
 -- The object of a base that a line is about: the one that its form names, where the base has it. A
 -- line of an external command is about none.
 abbrev pub object_of : Base → LogEntry → Option Object
-object_of base entry = object_named base entry (subject_of entry.kind)
+object_of base entry = object_named base entry (form_subject entry.kind)

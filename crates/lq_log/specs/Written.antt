@@ -1,8 +1,9 @@
 -- The lines that the program writes.
-use Rattle.std.specs.Prelude.{ℕ, Bool, List, ◌++◌, length, unwrap_or, codes, ◌==◌, if◌then◌else◌, ℤ, []}
+use Rattle.std.specs.Prelude.{ℕ, Bool, List, ◌++◌, length, unwrap_or, codes, ◌==◌, if◌then◌else◌, ℤ}
+use Rattle.std.specs.Prelude.{[]}
 use Rattle.std.specs.Fmt.{decimal}
 use Rattle.lq_events.specs.declared.log_entry.LogEntry.{LogEntry}
-use Rattle.lq_log.specs.Entries.{said}
+use Rattle.lq_log.specs.Entries.{entry_of_text}
 use Rattle.lq_log.specs.Fields.{host_states, name_of_state, service_states}
 use Rattle.lq_log.specs.declared.written.DowntimeChange.{DowntimeChange}
 use Rattle.lq_log.specs.declared.written.DowntimeChange.TheVariants as change
@@ -12,22 +13,23 @@ use Rattle.lq_log.specs.declared.written.Form.TheVariants as form
 -- ---- the text of a form
 
 -- a host's form stands where the service is empty
-abbrev pub is_of_host : List ℕ → Bool
-is_of_host service = length service == 0
+abbrev pub has_no_service : List ℕ → Bool
+has_no_service service = length service == 0
 
 -- the host, and a service's description after it
 unfoldable pub object_text : List ℕ → List ℕ → List ℕ
-object_text host service = if is_of_host service then host else host ++ codes ";" ++ service
+object_text host service = if has_no_service service then host else host ++ codes ";" ++ service
 
 -- a field that follows another one
 abbrev pub next_field : List ℕ → List ℕ
 next_field text = codes ";" ++ text
 
 abbrev pub alert_name : List ℕ → List ℕ
-alert_name service = if is_of_host service then codes "HOST ALERT: " else codes "SERVICE ALERT: "
+alert_name service =
+    if has_no_service service then codes "HOST ALERT: " else codes "SERVICE ALERT: "
 
 abbrev pub states_of : List ℕ → List (List ℕ × ℤ)
-states_of service = if is_of_host service then host_states else service_states
+states_of service = if has_no_service service then host_states else service_states
 
 abbrev pub state_word : List ℕ → ℤ → List ℕ
 state_word service state = unwrap_or (name_of_state (states_of service) state) []
@@ -37,7 +39,8 @@ type_word hard = if hard then codes "HARD" else codes "SOFT"
 
 abbrev pub downtime_name : List ℕ → List ℕ
 downtime_name service =
-    if is_of_host service then codes "HOST DOWNTIME ALERT: " else codes "SERVICE DOWNTIME ALERT: "
+    if has_no_service service then codes "HOST DOWNTIME ALERT: "
+    else codes "SERVICE DOWNTIME ALERT: "
 
 -- what happens to a downtime, and the comment that follows it
 abbrev pub host_downtime : DowntimeChange → List ℕ
@@ -55,7 +58,7 @@ service_downtime change.Cancelled =
 
 abbrev pub downtime_fields : List ℕ → DowntimeChange → List ℕ
 downtime_fields service change =
-    if is_of_host service then host_downtime change else service_downtime change
+    if has_no_service service then host_downtime change else service_downtime change
 
 unfoldable pub form_text : Form → List ℕ
 form_text (form.External text) = codes "EXTERNAL COMMAND: " ++ text
@@ -69,10 +72,11 @@ form_text (form.Downtime host service change) =
 -- ---- the entry
 
 -- the line of a text, with its second
-unfoldable pub stamped : ℕ → List ℕ → List ℕ
-stamped time text = codes "[" ++ decimal time ++ codes "] " ++ text
+unfoldable pub line_at_second : ℕ → List ℕ → List ℕ
+line_at_second time text = codes "[" ++ decimal time ++ codes "] " ++ text
 
 -- the entry of a form at a second: what its text says, and the whole line
-abbrev pub written : ℕ → Form → LogEntry
-written time form =
-    record (said (form_text form)) { time = time; message = stamped time (form_text form) }
+abbrev pub entry_of_form : ℕ → Form → LogEntry
+entry_of_form time form =
+    record (entry_of_text (form_text form))
+    { time = time; message = line_at_second time (form_text form) }

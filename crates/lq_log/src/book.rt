@@ -1,4 +1,5 @@
-ghost use Rattle.std.specs.Prelude.{All, ◌≡◌, ◌<◌, ◌≤◌, ◌^◌, ◌+◌, ◌++◌, ◌∷◌, ◌==◌, [], IfOk, IsOk, OnErr, OnOk, Some, length, ◌-◌};
+ghost use Rattle.std.specs.Prelude.{All, ◌≡◌, ◌<◌, ◌≤◌, ◌^◌, ◌+◌, ◌++◌, ◌∷◌, ◌==◌, [], IfOk, IsOk};
+ghost use Rattle.std.specs.Prelude.{OnErr, OnOk, Some, length, ◌-◌};
 ghost use Rattle.std.specs.List.{slice_get};
 ghost use Rattle.std.specs.Option.{option_map};
 ghost use Rattle.lq_log.specs.Book.{InOrder, last_time, time_limit};

@@ -1,7 +1,8 @@
 ghost use Rattle.std.specs.Prelude.{◌≡◌, IfOk, OnOk, Some, pos, true, unwrap_or};
 ghost use Rattle.std.specs.Option.{option_map};
 ghost use Rattle.lq_events.specs.declared.log_entry.Kind.TheVariants.{TimeperiodTransition};
-ghost use Rattle.lq_log.specs.Fields.{where_holds, with_field, with_fields, with_from, with_state, with_to};
+ghost use Rattle.lq_log.specs.Fields.{entry_where, with_field, with_fields, with_from, with_state};
+ghost use Rattle.lq_log.specs.Fields.{with_to};
 
 use crate::field::Field;
 use crate::texts::Texts;
@@ -22,7 +23,7 @@ pub(crate) fn fill_all(
     text: &str,
 ) -> Result<bool, Memory>
     ensures { IfOk result
-        (λ fits. where_holds fits entry.new ≡ with_fields fields.now text.now entry.old) }
+        (λ fits. entry_where fits entry.new ≡ with_fields fields.now text.now entry.old) }
 {
     let Some((field, later)) = fields.split_first() else {
         return Ok(true);
@@ -42,7 +43,7 @@ pub(crate) fn fill_all(
 /// Fills an entry with a field, and says whether the field has its form.
 fn fill(texts: &mut Texts, entry: &mut LogEntry, field: Field, text: &str) -> Result<bool, Memory>
     ensures { IfOk result
-        (λ fits. where_holds fits entry.new ≡ with_field entry.old field text.now) }
+        (λ fits. entry_where fits entry.new ≡ with_field entry.old field text.now) }
 {
     match field {
         Field::HostName => share(texts, &mut entry.host, text),
@@ -80,13 +81,13 @@ fn share(texts: &mut Texts, place: &mut Text, text: &str) -> Result<bool, Memory
     ensures fits { IfOk result (λ fits. fits ≡ true) }
     ensures set { OnOk result (place.new ≡ text.now) }
 {
-    *place = texts.shared(text)?;
+    *place = texts.share(text)?;
     Ok(true)
 }
 
 /// Fills in a state, where there is one.
 fn fill_state(entry: &mut LogEntry, state: Option<i64>) -> bool
-    ensures { where_holds result entry.new ≡ with_state state entry.old }
+    ensures { entry_where result entry.new ≡ with_state state entry.old }
 {
     match state {
         Some(state) => {
@@ -99,7 +100,7 @@ fn fill_state(entry: &mut LogEntry, state: Option<i64>) -> bool
 
 /// Fills in an attempt, where there is one.
 fn fill_attempt(entry: &mut LogEntry, attempt: Option<u32>) -> bool
-    ensures { where_holds result entry.new
+    ensures { entry_where result entry.new
         ≡ option_map (λ number. record entry.old { attempt = number }) attempt }
 {
     match attempt {
@@ -118,8 +119,8 @@ fn fill_word(
     fits: bool,
     text: &str,
 ) -> Result<bool, Memory>
-    ensures { IfOk result (λ filled. where_holds filled entry.new
-        ≡ where_holds fits (record entry.old { word = text.now })) }
+    ensures { IfOk result (λ filled. entry_where filled entry.new
+        ≡ entry_where fits (record entry.old { word = text.now })) }
 {
     if !fits {
         return Ok(false);
@@ -134,7 +135,7 @@ fn fill_notice(
     state: Option<i64>,
     text: &str,
 ) -> Result<bool, Memory>
-    ensures { IfOk result (λ fits. where_holds fits entry.new
+    ensures { IfOk result (λ fits. entry_where fits entry.new
         ≡ Some (record entry.old { word = text.now; state = unwrap_or state (pos 0) })) }
 {
     entry.state = state.unwrap_or(0);
@@ -143,11 +144,11 @@ fn fill_notice(
 
 /// Fills in the name of the period that goes over.
 fn fill_period(texts: &mut Texts, entry: &mut LogEntry, text: &str) -> Result<bool, Memory>
-    ensures { IfOk result (λ fits. where_holds fits entry.new
+    ensures { IfOk result (λ fits. entry_where fits entry.new
         ≡ Some (record entry.old { kind = TimeperiodTransition text.now (pos 0) (pos 0) })) }
 {
     entry.kind = Kind::TimeperiodTransition {
-        name: texts.shared(text)?,
+        name: texts.share(text)?,
         from: 0,
         to: 0,
     };
@@ -156,7 +157,7 @@ fn fill_period(texts: &mut Texts, entry: &mut LogEntry, text: &str) -> Result<bo
 
 /// Fills in what a period goes over from, where that is a number.
 fn fill_from(entry: &mut LogEntry, number: Option<i64>) -> bool
-    ensures { where_holds result entry.new
+    ensures { entry_where result entry.new
         ≡ option_map (λ from. record entry.old { kind = with_from from entry.old.kind }) number }
 {
     let Some(number) = number else {
@@ -170,7 +171,7 @@ fn fill_from(entry: &mut LogEntry, number: Option<i64>) -> bool
 
 /// Fills in what a period goes over to, where that is a number.
 fn fill_to(entry: &mut LogEntry, number: Option<i64>) -> bool
-    ensures { where_holds result entry.new
+    ensures { entry_where result entry.new
         ≡ option_map (λ to. record entry.old { kind = with_to to entry.old.kind }) number }
 {
     let Some(number) = number else {

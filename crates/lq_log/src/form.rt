@@ -31,7 +31,7 @@ impl Model for LineForm {
 
 impl LineForm {
     /// The form with a name. None where no form has it.
-    pub(crate) fn named(name: &str) -> Option<Self>
+    pub(crate) fn of_name(name: &str) -> Option<Self>
         ensures { result ≡ form_named name.now }
     {
         Some(match name {

@@ -1,13 +1,14 @@
 ghost use Rattle.std.specs.Prelude.{◌≡◌, ◌<◌, ◌≤◌, IfOk, IfSome, nat_eq};
 ghost use Rattle.std.specs.List.{list_any, starts_with};
 ghost use Rattle.std.specs.Option.{option_and_then};
-ghost use Rattle.lq_log.specs.Entries.{IsOfLine, blank, entry_of, formed, other, parted, program_beginnings, said};
+ghost use Rattle.lq_log.specs.Entries.{IsOfLine, blank, entry_of, entry_of_parts, other};
+ghost use Rattle.lq_log.specs.Entries.{parts_at_colon, program_beginnings, entry_of_text};
 ghost use Rattle.lq_log.specs.Book.{time_limit};
 
 use crate::class;
 use crate::fill::fill_all;
 use crate::form::LineForm;
-use crate::split::{parted, second_and_text};
+use crate::split::{parts_at_colon, second_and_text};
 use crate::texts::Texts;
 use lq_events::{Kind, LogEntry};
 use lq_records::{Memory, Text};
@@ -47,15 +48,15 @@ pub(crate) fn entry_of(
         return Ok(None);
     };
     texts.begin(&line)?;
-    let mut entry = said(texts, text)?;
+    let mut entry = entry_of_text(texts, text)?;
     entry.time = second.max(before);
     entry.message = line;
     Ok(Some(entry))
 }
 
 /// What a text says.
-pub(crate) fn said(texts: &mut Texts, text: &str) -> Result<LogEntry, Memory>
-    ensures { IfOk result (λ entry. entry ≡ said text.now) }
+pub(crate) fn entry_of_text(texts: &mut Texts, text: &str) -> Result<LogEntry, Memory>
+    ensures { IfOk result (λ entry. entry ≡ entry_of_text text.now) }
 {
     match with_form(texts, text)? {
         Some(entry) => Ok(entry),
@@ -65,12 +66,13 @@ pub(crate) fn said(texts: &mut Texts, text: &str) -> Result<LogEntry, Memory>
 
 /// What a text says that has the name and the fields of a form.
 fn with_form(texts: &mut Texts, text: &str) -> Result<Option<LogEntry>, Memory>
-    ensures { IfOk result (λ entry. entry ≡ option_and_then formed (parted text.now)) }
+    ensures { IfOk result (λ entry. entry ≡ option_and_then entry_of_parts
+        (parts_at_colon text.now)) }
 {
-    let Some((name, rest)) = parted(text) else {
+    let Some((name, rest)) = parts_at_colon(text) else {
         return Ok(None);
     };
-    let Some(form) = LineForm::named(name) else {
+    let Some(form) = LineForm::of_name(name) else {
         return Ok(None);
     };
     let fields = form.fields();

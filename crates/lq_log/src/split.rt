@@ -1,8 +1,9 @@
-ghost use Rattle.std.specs.Prelude.{◌≡◌, ◌+◌, ◌^◌, ◌<◌, ◌==◌, ◌&&◌, IfSome, IsTrue, drop, length, slice_index, take};
+ghost use Rattle.std.specs.Prelude.{◌≡◌, ◌+◌, ◌^◌, ◌<◌, ◌==◌, ◌&&◌, IfSome, IsTrue, drop, length};
+ghost use Rattle.std.specs.Prelude.{slice_index, take};
 ghost use Rattle.std.specs.Option.{option_map};
 ghost use Rattle.lq_text.specs.Blanks.{is_blank};
 ghost use Rattle.lq_text.specs.Seconds.{second_of, text_after_second};
-ghost use Rattle.lq_log.specs.Entries.{colon, parted};
+ghost use Rattle.lq_log.specs.Entries.{colon, parts_at_colon};
 
 use lq_text::{bracketed_second, is_blank};
 
@@ -21,8 +22,8 @@ pub(crate) fn second_and_text(line: &str) -> Option<(u64, &str)>
 }
 
 /// What stands before the first colon with a blank after it, and what follows that blank.
-pub(crate) fn parted(text: &str) -> Option<(&str, &str)>
-    ensures { option_map (λ parts. (parts.0.now, parts.1.now)) result ≡ parted text.now }
+pub(crate) fn parts_at_colon(text: &str) -> Option<(&str, &str)>
+    ensures { option_map (λ parts. (parts.0.now, parts.1.now)) result ≡ parts_at_colon text.now }
 {
     let place = colon_place(text.as_bytes())?;
     Some((&text[..place], &text[place + SEPARATOR_LEN..]))
@@ -31,7 +32,7 @@ pub(crate) fn parted(text: &str) -> Option<(&str, &str)>
 /// The place of the first colon with a blank after it.
 fn colon_place(text: &[u8]) -> Option<usize>
     ensures parts { option_map (λ place. (take place text.now, drop (place + 2) text.now)) result
-        ≡ parted text.now }
+        ≡ parts_at_colon text.now }
     ensures colon { IfSome result (λ place. slice_index text.now place ≡ colon) }
     ensures blank { IfSome result (λ place. IsTrue (is_blank (slice_index text.now (place + 1)))) }
     ensures within { IfSome result (λ place. place + 1 < length text.now) }

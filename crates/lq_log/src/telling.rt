@@ -1,6 +1,8 @@
 ghost use Rattle.std.specs.Prelude.{◌≡◌, ◌<◌, IfSome, length};
-ghost use Rattle.lq_log.specs.LastTold.{flapping_told, is_flapping, is_period_on, period_of_kind, period_told};
-ghost use Rattle.lq_log.specs.Told.{has_started, is_hard, object_named, object_of, subject_of, told_by};
+ghost use Rattle.lq_log.specs.LastTold.{flapping_told, is_flapping, is_period_on, period_of_kind};
+ghost use Rattle.lq_log.specs.LastTold.{period_told};
+ghost use Rattle.lq_log.specs.Told.{has_started, is_hard, object_named, object_of, form_subject};
+ghost use Rattle.lq_log.specs.Told.{told_by};
 
 use lq_events::{Kind, LogEntry};
 use lq_records::{Base, Object, ObjectKind};
@@ -61,7 +63,7 @@ pub fn object_of(base: &Base, entry: &LogEntry) -> Option<Object>
     ensures { result ≡ object_of base.now entry.now }
 {
     let host = entry.host.as_str();
-    match subject_of(&entry.kind)? {
+    match form_subject(&entry.kind)? {
         ObjectKind::Host => Some(Object::Host(base.hosts.find(host)?)),
         ObjectKind::Service => {
             let description = entry.service.as_str();
@@ -125,8 +127,8 @@ pub fn period_of(entry: &LogEntry) -> &str
 }
 
 /// Whether lines of a kind name a host or a service.
-fn subject_of(kind: &Kind) -> Option<ObjectKind>
-    ensures { result ≡ subject_of kind.now }
+fn form_subject(kind: &Kind) -> Option<ObjectKind>
+    ensures { result ≡ form_subject kind.now }
 {
     match kind {
         Kind::HostAlert

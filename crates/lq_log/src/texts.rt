@@ -61,7 +61,7 @@ impl Texts {
     }
 
     /// A text that may be one that was made before. The only error is out of memory.
-    pub(crate) fn shared(&mut self, text: &str) -> Result<Text, Memory>
+    pub(crate) fn share(&mut self, text: &str) -> Result<Text, Memory>
         ensures { IfOk result (λ made. made ≡ text.now) }
     {
         let place = place_of(text);

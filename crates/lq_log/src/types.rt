@@ -1,7 +1,7 @@
 ghost use Rattle.std.specs.Prelude.{◌≡◌};
-ghost use Rattle.lq_log.specs.Types.{line_options, line_text, line_type};
+ghost use Rattle.lq_log.specs.Types.{line_options, text_of_entry, line_type};
 
-use crate::split::{parted, second_and_text};
+use crate::split::{parts_at_colon, second_and_text};
 use lq_events::LogEntry;
 
 /// The type of a line: what stands before the first colon with a blank after it in the text that
@@ -9,8 +9,8 @@ use lq_events::LogEntry;
 pub fn line_type(entry: &LogEntry) -> &str
     ensures { result.now ≡ line_type entry.now }
 {
-    let text = line_text(entry);
-    match parted(text) {
+    let text = text_of_entry(entry);
+    match parts_at_colon(text) {
         Some((name, _)) => name,
         None => text,
     }
@@ -20,15 +20,15 @@ pub fn line_type(entry: &LogEntry) -> &str
 pub fn line_options(entry: &LogEntry) -> &str
     ensures { result.now ≡ line_options entry.now }
 {
-    match parted(line_text(entry)) {
+    match parts_at_colon(text_of_entry(entry)) {
         Some((_, options)) => options,
         None => "",
     }
 }
 
 /// The text that follows a line's second.
-fn line_text(entry: &LogEntry) -> &str
-    ensures { result.now ≡ line_text entry.now }
+fn text_of_entry(entry: &LogEntry) -> &str
+    ensures { result.now ≡ text_of_entry entry.now }
 {
     let line = entry.message.as_str();
     match second_and_text(line) {

@@ -1,9 +1,11 @@
-ghost use Rattle.std.specs.Prelude.{◌≡◌, ◌++◌, ◌∷◌, [], ◌+◌, ◌-◌, ◌^◌, ◌<◌, None, IfErr, IfOk, OnOk};
+ghost use Rattle.std.specs.Prelude.{◌≡◌, ◌++◌, ◌∷◌, [], ◌+◌, ◌-◌, ◌^◌, ◌<◌, None, IfErr, IfOk};
+ghost use Rattle.std.specs.Prelude.{OnOk};
 ghost use Rattle.std.specs.Option.{option_to_list};
-ghost use Rattle.lq_records.specs.Clean.{cleaned};
+ghost use Rattle.lq_records.specs.Clean.{text_of_bytes};
 ghost use Rattle.lq_log.specs.Book.{last_time};
 ghost use Rattle.lq_log.specs.Entries.{entry_of};
-ghost use Rattle.lq_log.specs.Log.{Reads, Tells, line_fault, log_of, skipped_in, time_of};
+ghost use Rattle.lq_log.specs.Log.{ReadsLog, TellsLogFault, line_fault, log_of, skipped_in};
+ghost use Rattle.lq_log.specs.Log.{time_of};
 
 use crate::book::LogBook;
 use crate::read::entry_of;
@@ -44,7 +46,7 @@ impl LogBook {
     /// `TooManyLines` and `LineTooLong` come exactly where a line passes a limit, with the first
     /// one that does; where it passes both, it is one too many. Any other error is out of memory.
     pub fn read(alloc: Global, b: &[u8]) -> Result<Self, LogErr>
-        ensures { Reads result (log_of b.now) }
+        ensures { ReadsLog result (log_of b.now) }
     {
         let mut book = match LogBook::with_room(alloc, b.len()) {
             Ok(book) => book,
@@ -79,11 +81,11 @@ impl LogBook {
     fn add_line(&mut self, texts: &mut Texts, number: u64, line: &[u8]) -> Result<(), LogErr>
         requires { self.old.skipped < number }
         ensures fits { OnOk result (line_fault number line.now ≡ None) }
-        ensures fault { IfErr result (λ error. Tells error (line_fault number line.now)) }
+        ensures fault { IfErr result (λ error. TellsLogFault error (line_fault number line.now)) }
         ensures entries { OnOk result (self.new.entries ≡ self.old.entries
-            ++ option_to_list (entry_of (cleaned line.now) (last_time self.old.entries))) }
+            ++ option_to_list (entry_of (text_of_bytes line.now) (last_time self.old.entries))) }
         ensures last { OnOk result (last_time self.new.entries
-            ≡ time_of (entry_of (cleaned line.now) (last_time self.old.entries))
+            ≡ time_of (entry_of (text_of_bytes line.now) (last_time self.old.entries))
             (last_time self.old.entries)) }
         ensures skipped { OnOk result
             (self.new.skipped ≡ self.old.skipped + skipped_in (line.now ∷ [])) }
@@ -104,9 +106,9 @@ impl LogBook {
     fn add_text(&mut self, texts: &mut Texts, line: &[u8]) -> Result<(), Memory>
         requires { self.old.skipped < 2 ^ 64 - 1 }
         ensures entries { OnOk result (self.new.entries ≡ self.old.entries
-            ++ option_to_list (entry_of (cleaned line.now) (last_time self.old.entries))) }
+            ++ option_to_list (entry_of (text_of_bytes line.now) (last_time self.old.entries))) }
         ensures last { OnOk result (last_time self.new.entries
-            ≡ time_of (entry_of (cleaned line.now) (last_time self.old.entries))
+            ≡ time_of (entry_of (text_of_bytes line.now) (last_time self.old.entries))
             (last_time self.old.entries)) }
         ensures skipped { OnOk result
             (self.new.skipped ≡ self.old.skipped + skipped_in (line.now ∷ [])) }

@@ -1,6 +1,8 @@
 ghost use Rattle.std.specs.Prelude.{◌≡◌, Some, None, if◌then◌else◌, unwrap_or, []};
 ghost use Rattle.lq_text.specs.Numbers.{integer_read, number_of};
-ghost use Rattle.lq_log.specs.Fields.{code_of, downtime_words, flapping_words, host_states, is_attempt, is_code, is_one_of, name_of_state, service_states, state_named, state_types};
+ghost use Rattle.lq_log.specs.Fields.{code_of, downtime_words, flapping_words, host_states};
+ghost use Rattle.lq_log.specs.Fields.{is_attempt, is_code, is_one_of, name_of_state};
+ghost use Rattle.lq_log.specs.Fields.{service_states, state_named, state_types};
 
 use lq_text::{read_i64, read_u64};
 

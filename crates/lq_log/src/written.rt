@@ -2,9 +2,11 @@ ghost use Rattle.std.specs.Prelude.{◌≡◌, ◌<◌, ◌++◌, IfOk, OnOk, So
 ghost use Rattle.std.specs.Fmt.{decimal};
 ghost use Rattle.lq_log.specs.Entries.{IsOfLine, entry_of};
 ghost use Rattle.lq_log.specs.Book.{time_limit};
-ghost use Rattle.lq_log.specs.Written.{alert_name, downtime_fields, downtime_name, form_text, host_downtime, next_field, object_text, service_downtime, stamped, state_word, type_word, written};
+ghost use Rattle.lq_log.specs.Written.{alert_name, downtime_fields, downtime_name, form_text};
+ghost use Rattle.lq_log.specs.Written.{host_downtime, next_field, object_text, service_downtime};
+ghost use Rattle.lq_log.specs.Written.{line_at_second, state_word, type_word, entry_of_form};
 
-use crate::read::said;
+use crate::read::entry_of_text;
 use crate::texts::Texts;
 use crate::words::{host_state_name, service_state_name};
 use itoa::Buffer;
@@ -69,25 +71,25 @@ pub enum Form {
 /// a `;` reads as two fields. A second below `TIME_LIMIT` has at most 12 digits, so that
 /// `read_line` gives the same entry of the line. The only error is running out of memory.
 pub fn make_line(alloc: Global, time: u64, form: &Form) -> Result<LogEntry, Memory>
-    ensures made { IfOk result (λ entry. entry ≡ written time form.now) }
+    ensures made { IfOk result (λ entry. entry ≡ entry_of_form time form.now) }
     ensures own_text { time < time_limit
         → IfOk result (λ entry. entry_of entry.message 0 ≡ Some entry) }
     ensures line { time < time_limit → IfOk result IsOfLine }
 {
     let text = form_text(alloc, form)?;
-    let message = stamped(alloc, time, text.as_str())?;
+    let message = line_at_second(alloc, time, text.as_str())?;
     let mut texts = Texts::of_a_line(alloc);
     texts.begin(&message)?;
-    let mut entry = said(&mut texts, text.as_str())?;
+    let mut entry = entry_of_text(&mut texts, text.as_str())?;
     entry.time = time;
     entry.message = message;
     Ok(entry)
 }
 
 /// The line of a text, with its second.
-#[tactic(auto, unfolding(crate::specs::Written::stamped))]
-fn stamped(alloc: Global, time: u64, text: &str) -> Result<Text, Memory>
-    ensures { IfOk result (λ line. line ≡ stamped time text.now) }
+#[tactic(auto, unfolding(crate::specs::Written::line_at_second))]
+fn line_at_second(alloc: Global, time: u64, text: &str) -> Result<Text, Memory>
+    ensures { IfOk result (λ line. line ≡ line_at_second time text.now) }
 {
     let mut line = String::with_capacity(alloc, text.len() + STAMP_BYTES)?;
     line.push_str("[")?;

@@ -6,7 +6,7 @@ use Rattle.std.proofs.lemmas.Bool.{cond-false, cond-true, cases_lt, le-ltb, lt-l
 use Rattle.std.proofs.lemmas.List.{get_or_default, map-append}
 use Rattle.std.proofs.lemmas.List.Sums.{fails_before_first, passes_at_first}
 use Rattle.std.proofs.lemmas.List.Folds.{list_any-from_Any, list_any_none}
-use Rattle.lq_names.specs.Names.{Name, is_same, parts_of, place_of}
+use Rattle.lq_names.specs.Names.{Name, is_equal_name, both_parts, place_of}
 
 abbrev pub Key : Type 0
 Key = List ℕ × List ℕ
@@ -38,7 +38,7 @@ pub place_of-key : (keys : List Key) (key : Key) (name : Name) → key.0 ≡ nam
     → position (λ other. bytes_eq key.0 other.0 && bytes_eq key.1 other.1) keys ≡ place_of (map key_name keys) name
 place_of-key keys key name first second =
     subst (λ named. position (λ other. bytes_eq key.0 other.0 && bytes_eq key.1 other.1) keys ≡ place_of (map key_name keys) named)
-    (name_from key name first second) (sym (position-map (is_same (key_name key)) key_name keys))
+    (name_from key name first second) (sym (position-map (is_equal_name (key_name key)) key_name keys))
 
 -- ---- a name that is added
 
@@ -86,6 +86,6 @@ added_key keys new key name names view first second absent inserted =
 
 -- ---- names handed on
 
-pub parts-of_keys : (keys : List Key) → map parts_of (map key_name keys) ≡ keys
+pub parts-of_keys : (keys : List Key) → map both_parts (map key_name keys) ≡ keys
 parts-of_keys [] = refl
 parts-of_keys (key ∷ keys) = ap (λ rest. key ∷ rest) (parts-of_keys keys)

@@ -13,12 +13,12 @@ abbrev pub single : List ℕ → Name
 single text = record { first = text; second = [] }
 
 -- both parts
-abbrev pub parts_of : Name → List ℕ × List ℕ
-parts_of name = (name.first, name.second)
+abbrev pub both_parts : Name → List ℕ × List ℕ
+both_parts name = (name.first, name.second)
 
-abbrev pub is_same : Name → Name → Bool
-is_same a b = bytes_eq a.first b.first && bytes_eq a.second b.second
+abbrev pub is_equal_name : Name → Name → Bool
+is_equal_name a b = bytes_eq a.first b.first && bytes_eq a.second b.second
 
 -- where a name first stands among others
 abbrev pub place_of : List Name → Name → Option ℕ
-place_of names name = position (is_same name) names
+place_of names name = position (is_equal_name name) names

@@ -1,6 +1,7 @@
-ghost use Rattle.std.specs.Prelude.{◌≡◌, ◌++◌, ◌∷◌, ◌<◌, ◌^◌, [], length, map, false, None, OnOk, OnErr, IfSome};
+ghost use Rattle.std.specs.Prelude.{◌≡◌, ◌++◌, ◌∷◌, ◌<◌, ◌^◌, [], length, map, false, None, OnOk};
+ghost use Rattle.std.specs.Prelude.{OnErr, IfSome};
 ghost use Rattle.std.specs.List.{list_any};
-ghost use Rattle.lq_names.specs.Names.{is_same, parts_of, place_of};
+ghost use Rattle.lq_names.specs.Names.{is_equal_name, both_parts, place_of};
 
 use crate::name::Name;
 use indexmap::IndexSet;
@@ -67,7 +68,7 @@ impl NameIndex {
 
     /// Whether a name is there.
     pub fn contains(&self, name: &Name) -> bool
-        ensures value { result ≡ list_any (is_same name.now) self.now }
+        ensures value { result ≡ list_any (is_equal_name name.now) self.now }
         ensures absent { result ≡ false → place_of self.now name.now ≡ None }
     {
         self.find(name).is_some()
@@ -91,7 +92,7 @@ impl NameIndex {
 
     /// The names in order, each as its two parts. It takes no memory.
     pub fn into_names(self) -> IndexSet<(Text, Text)>
-        ensures names { result.keys ≡ map parts_of self }
+        ensures names { result.keys ≡ map both_parts self }
         ensures few { length result.keys < 2 ^ 32 }
     {
         let NameIndex { names } = self;

@@ -2,7 +2,7 @@
 use Rattle.std.proofs.Common.{◌≡◌, ℕ, List, [], map, refl, sym, ap, ◌∙◌}
 use Rattle.std.specs.Prelude.{filter}
 use Rattle.std.proofs.lemmas.Simd.{map-map}
-use Rattle.lq_names.specs.Names.{Name, parts_of}
+use Rattle.lq_names.specs.Names.{Name, both_parts}
 use Rattle.lq_records.specs.declared.base.Rules.{Rules}
 use Rattle.lq_objects.specs.Blocks.{Line}
 use Rattle.lq_objects.specs.Directories.{AreNamesOf, directory_of, known}
@@ -30,12 +30,12 @@ known-directory directory blocks is = ap known is ∙ (λ i kind. known_of block
 -- ---- the names by which objects are found
 
 named_as : {X : Type 0} (kind : Kind) (object_of : List Line → X) (name : X → List ℕ × List ℕ) (blocks : List Block)
-    → ((lines : List Line) → parts_of (name_of kind lines) ≡ name (object_of lines))
-    → map parts_of (block_names blocks kind) ≡ map name (map object_of (lines_of_kind kind blocks))
+    → ((lines : List Line) → both_parts (name_of kind lines) ≡ name (object_of lines))
+    → map both_parts (block_names blocks kind) ≡ map name (map object_of (lines_of_kind kind blocks))
 named_as kind object_of name blocks same =
     let kept : List Block = filter (is_of kind) blocks in
-    map-map parts_of (λ (block : Block). name_of kind block.lines) kept
-    ∙ map-agree (λ (block : Block). parts_of (name_of kind block.lines)) (λ (block : Block). name (object_of block.lines)) (λ block. same block.lines) kept
+    map-map both_parts (λ (block : Block). name_of kind block.lines) kept
+    ∙ map-agree (λ (block : Block). both_parts (name_of kind block.lines)) (λ (block : Block). name (object_of block.lines)) (λ block. same block.lines) kept
     ∙ sym (map-map (λ lines. name (object_of lines)) (λ (block : Block). block.lines) kept)
     ∙ sym (map-map name object_of (lines_of_kind kind blocks))
 

@@ -11,7 +11,7 @@ use Rattle.std.proofs.lemmas.Option.{none-some, same_Some}
 use Rattle.std.proofs.lemmas.Slice.Eq.{bytes_eq-Decides}
 use Rattle.lq_objects.specs.Blocks.{Line, Part, opened_word}
 use Rattle.lq_objects.specs.Kinds.{kind_named, kind_word, limit}
-use Rattle.lq_names.specs.Names.{Name, is_same}
+use Rattle.lq_names.specs.Names.{Name, is_equal_name}
 use Rattle.lq_objects.specs.Names.{Block, is_of, name_of, block_names}
 use Rattle.lq_objects.specs.Faults.{block_fault, block_of, blocks_of, ending_fault, fault_if, first_of, inner_fault, is_bad_name, lacks_name, name_fault, part_fault, parts_fault, known_block}
 use Rattle.lq_objects.specs.declared.kind.Kind.{Kind}
@@ -42,7 +42,7 @@ kind_from_is_of kind block is =
 
 -- the names of the objects of a kind: different, whole, without `;` where there may be none, and within the limit
 pub record AreFine (kind : Kind) (names : List Name) : Type 0 where
-  pub different : AllPairs (λ a b. is_same b a ≡ false) names
+  pub different : AllPairs (λ a b. is_equal_name b a ≡ false) names
   pub whole : All (λ name. lacks_name kind name ≡ false) names
   pub plain : All (λ name. is_bad_name kind name ≡ false) names
   pub few : length names ≤ limit kind
@@ -51,7 +51,7 @@ pub record AreFine (kind : Kind) (names : List Name) : Type 0 where
 record IsNew (kind : Kind) (earlier : List Name) (name : Name) : Type 0 where
   whole : lacks_name kind name ≡ false
   plain : is_bad_name kind name ≡ false
-  different : list_any (is_same name) earlier ≡ false
+  different : list_any (is_equal_name name) earlier ≡ false
   room : length earlier < limit kind
 
 pub fault_if-none : (test : Bool) (line : ℕ) (what : ObjectsWhat) → fault_if test line what ≡ None → test ≡ false
@@ -62,11 +62,11 @@ name_fault-none : (kind : Kind) (earlier : List Name) (name : Name) (line : ℕ)
 name_fault-none kind earlier name line none =
     let first = option_or_none (fault_if (lacks_name kind name) line NoName) _ none in
     let second = option_or_none (fault_if (is_bad_name kind name) line BadName) _ first.1 in
-    let third = option_or_none (fault_if (list_any (is_same name) earlier) line Twice) _ second.1 in
+    let third = option_or_none (fault_if (list_any (is_equal_name name) earlier) line Twice) _ second.1 in
     record {
       whole = fault_if-none (lacks_name kind name) line NoName first.0;
       plain = fault_if-none (is_bad_name kind name) line BadName second.0;
-      different = fault_if-none (list_any (is_same name) earlier) line Twice third.0;
+      different = fault_if-none (list_any (is_equal_name name) earlier) line Twice third.0;
       room = leb-false (limit kind) (length earlier) (fault_if-none (nat_le (limit kind) (length earlier)) line TooMany third.1);
     }
 
@@ -80,7 +80,7 @@ AreFine-nil kind = record {
 
 AreFine-push : (kind : Kind) (names : List Name) (name : Name) → AreFine kind names → IsNew kind names name → AreFine kind (names ++ name ∷ [])
 AreFine-push kind names name fine new = record {
-  different = all_pairs_push (λ a b. is_same b a ≡ false) names name fine.different (All-from_list_any (is_same name) names new.different);
+  different = all_pairs_push (λ a b. is_equal_name b a ≡ false) names name fine.different (All-from_list_any (is_equal_name name) names new.different);
   whole = All-push (λ other. lacks_name kind other ≡ false) names name fine.whole new.whole;
   plain = All-push (λ other. is_bad_name kind other ≡ false) names name fine.plain new.plain;
   few = omega (arith, length_push names name, new.room);

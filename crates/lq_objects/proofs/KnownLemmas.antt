@@ -1,36 +1,46 @@
--- The directives that are known, by the length of the word at a line's front.
-use Rattle.std.proofs.Common.{◌≡◌, ℕ, Bool, true, false, ◌&&◌, ◌||◌, List, [], ◌∷◌, length, refl, sym, ap₂, subst, ⊎_elim}
-use Rattle.std.specs.Prelude.{◌==◌, bytes_eq, nat_eq}
+-- The directives that are known, by the first byte of a line.
+use Rattle.std.proofs.Common.{◌≡◌, ℕ, Bool, true, false, ◌&&◌, ◌||◌, List, [], ◌∷◌, length, Some, None, refl, sym, ap, ap₂, ◌∙◌, subst, ⊎_elim}
+use Rattle.std.specs.Prelude.{◌==◌, bytes_eq, nat_eq, nat_lt, slice_get, slice_index}
 use Rattle.std.specs.List.{list_all, list_any, starts_with}
-use Rattle.std.proofs.lemmas.Bool.{and_parts, cases_Bool, or_from, or_parts, and_left}
+use Rattle.std.proofs.lemmas.Bool.{and_parts, cases_Bool, eq-eqb, eqb-true, or_parts}
 use Rattle.std.proofs.lemmas.Slice.Eq.{bytes_eq-Decides}
 use Rattle.lq_objects.specs.Blocks.{is_named}
-use Rattle.lq_objects.specs.Words.{is_word, word_length}
 use Rattle.lq_objects.specs.Needed.{is_known, known_directives}
-use Rattle.lq_objects.proofs.WordLemmas.{is_named-by_word}
+use Rattle.lq_text.specs.Blanks.{is_blank}
+use Rattle.lq_objects.proofs.WordLemmas.{and-false}
 
--- whether a text with a word of a length at its front begins with one of the names
-abbrev pub begins_with_one : ℕ → List ℕ → List (List ℕ) → Bool
-begins_with_one word text names = list_any (λ name. (word == length name) && starts_with nat_eq text name) names
+-- whether a text with a first byte is one of the directives
+abbrev pub named_from : ℕ → List ℕ → List (List ℕ) → Bool
+named_from byte text names = list_any (λ name. (byte == slice_index name 0) && is_named name text) names
 
-by_word : (text : List ℕ) (names : List (List ℕ)) → list_all is_word names ≡ true
-    → begins_with_one (word_length text) text names ≡ list_any (λ name. is_named name text) names
-by_word text [] words = refl
-by_word text (name ∷ names) words =
-    let both = and_parts (is_word name) (list_all is_word names) words in
-    ap₂ (λ first rest. first || rest) (is_named-by_word name text both.0) (by_word text names both.1)
+-- the first byte of a name stands in a text that it names
+same_first : (n b : ℕ) (starts ends : Bool) → ((b == n) && ((nat_eq n b && starts) && ends)) ≡ ((nat_eq n b && starts) && ends)
+same_first n b starts ends = ⊎_elim
+    (λ same. rw (eq-eqb b n (sym (eqb-true n b same))) refl)
+    (λ other. rw other (and-false (b == n)))
+    (cases_Bool (nat_eq n b))
 
-pub is_known-by_word : (text : List ℕ) → begins_with_one (word_length text) text known_directives ≡ is_known text
+by_first : (byte : ℕ) (text : List ℕ) (names : List (List ℕ)) → list_all (λ name. nat_lt 0 (length name)) names ≡ true
+    → named_from byte (byte ∷ text) names ≡ list_any (λ name. is_named name (byte ∷ text)) names
+by_first byte text [] some = refl
+by_first byte text ([] ∷ names) some = absurd (cc)
+by_first byte text ((n ∷ name) ∷ names) some =
+    let both = and_parts (nat_lt 0 (length (n ∷ name))) (list_all (λ name. nat_lt 0 (length name)) names) some in
+    ap₂ (λ first rest. first || rest)
+    (same_first n byte (starts_with nat_eq text name) ((length (byte ∷ text) == length (n ∷ name)) || is_blank (slice_index (byte ∷ text) (length (n ∷ name)))))
+    (by_first byte text names both.1)
+
+pub is_known-by_first : (byte : ℕ) (text : List ℕ) → Some byte ≡ slice_get text 0 → named_from byte text known_directives ≡ is_known text
 unfolding known_directives
-is_known-by_word text = by_word text known_directives refl
+is_known-by_first byte [] first = absurd (cc)
+is_known-by_first byte (b ∷ text) first =
+    let same : byte ≡ b = cc in
+    ap (λ byte. named_from byte (b ∷ text) known_directives) same ∙ by_first b text known_directives refl
 
--- no name has the length
-pub none_as_long : (word : ℕ) (text : List ℕ) (names : List (List ℕ)) → list_any (λ name. word == length name) names ≡ false
-    → begins_with_one word text names ≡ false
-none_as_long word text [] none = refl
-none_as_long word text (name ∷ names) none =
-    let both = or_parts (word == length name) (list_any (λ other. word == length other) names) none in
-    or_from _ _ (and_left _ (starts_with nat_eq text name) both.0) (none_as_long word text names both.1)
+pub is_known-empty : (text : List ℕ) → None ≡ slice_get text 0 → false ≡ is_known text
+unfolding known_directives
+is_known-empty [] none = refl
+is_known-empty (b ∷ text) none = absurd (cc)
 
 -- a line that is none of some directives isn't one of them
 none_named : (name text : List ℕ) (names : List (List ℕ)) → list_any (bytes_eq name) names ≡ true

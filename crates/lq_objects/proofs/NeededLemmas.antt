@@ -6,14 +6,14 @@ use Rattle.std.specs.Option.{option_and_then, option_map, option_map_or, option_
 use Rattle.std.specs.Prelude.{unwrap_or}
 use Rattle.std.proofs.lemmas.Bool.{and_left, and_right, both_ways, cases_Bool, or_from, or_parts, true_from_ne_false}
 use Rattle.std.proofs.lemmas.Map.Views.{any-filter_same}
-use Rattle.lq_records.specs.Clean.{cleaned}
+use Rattle.lq_records.specs.Clean.{text_of_bytes}
 use Rattle.lq_objects.specs.Blocks.{Line, directive, is_closing, is_named, opened_word, value_of}
 use Rattle.lq_objects.specs.Kinds.{name_directive, reference_directive, references, second_directive}
 use Rattle.lq_names.specs.Names.{Name}
 use Rattle.lq_objects.specs.Names.{name_of, text_or}
 use Rattle.lq_objects.specs.Needed.{is_known, is_needed, known_directives}
-use Rattle.lq_objects.specs.Faults.{directive_fault, fault_if, first_of, has_numbers, inner_fault, is_unknown, names_unknown, number_in, unknown_in}
-use Rattle.lq_objects.specs.Objects.{command_of, contact_group_of, contact_of, custom_variables, fields_of, host_group_of, host_of, host_place, ids, is_variable, merged, number_or, period_of, places, places_in, service_group_of, service_of, variable_of}
+use Rattle.lq_objects.specs.Faults.{directive_fault, fault_if, first_of, has_numbers, inner_fault, is_unknown, names_unknown, number_between, unknown_in}
+use Rattle.lq_objects.specs.Objects.{command_of, contact_group_of, contact_of, custom_variables, fields_of, host_group_of, host_of, host_place, ids, is_variable, merged_variables, number_or, period_of, places, places_in, service_group_of, service_of, variable_of}
 use Rattle.lq_objects.specs.declared.kind.Kind.{Kind}
 use Rattle.lq_objects.specs.declared.kind.Kind.TheVariants.{Host, Service, HostGroup, ServiceGroup, Contact, ContactGroup, Period, Command}
 use Rattle.lq_objects.specs.declared.kind.Reference.{Reference}
@@ -51,7 +51,7 @@ directive-needed name known lines =
     ap (option_map (λ line. value_of name line.text)) (find-filter is_needed (λ line. is_named name line.text) (not_named name known) lines)
 
 text-needed : (absent name : List ℕ) → IsKnownName name → (lines : List Line) → text_or absent name (needed lines) ≡ text_or absent name lines
-text-needed absent name known lines = ap (λ found. option_map_or cleaned found absent) (directive-needed name known lines)
+text-needed absent name known lines = ap (λ found. option_map_or text_of_bytes found absent) (directive-needed name known lines)
 
 -- a text that is the object's name where it is absent
 own-needed : (own name : List ℕ) → IsKnownName own → IsKnownName name → (lines : List Line)
@@ -62,11 +62,11 @@ own-needed own name known known' lines =
 number-needed : (absent least most : ℕ) (name : List ℕ) → IsKnownName name → (lines : List Line)
     → number_or absent least most name (needed lines) ≡ number_or absent least most name lines
 number-needed absent least most name known lines =
-    ap (λ found. unwrap_or (option_and_then (number_in least most) found) absent) (directive-needed name known lines)
+    ap (λ found. unwrap_or (option_and_then (number_between least most) found) absent) (directive-needed name known lines)
 
 variables-needed : (lines : List Line) → custom_variables (needed lines) ≡ custom_variables lines
 variables-needed lines =
-    ap (λ kept. merged (map variable_of kept))
+    ap (λ kept. merged_variables (map variable_of kept))
     (filter-filter is_needed (λ line. is_variable line.text) (λ line unneeded. (says_nothing line unneeded).variable) lines)
 
 -- ---- names and references

@@ -10,7 +10,7 @@ use Rattle.std.proofs.lemmas.List.Quantifiers.{position-Some}
 use Rattle.std.proofs.lemmas.Option.{none-some, same_Some, slice_get-get_or, slice_get-map}
 use Rattle.std.proofs.lemmas.Slice.Eq.{bytes_eq-Decides}
 use Rattle.lq_text.specs.Numbers.{number_of}
-use Rattle.lq_records.specs.Clean.{cleaned}
+use Rattle.lq_records.specs.Clean.{text_of_bytes}
 use Rattle.lq_records.specs.Sound.{ArePlaces}
 use Rattle.lq_records.specs.declared.ids.HostId.{HostId}
 use Rattle.lq_records.specs.declared.ids.ServiceId.{ServiceId}
@@ -18,9 +18,9 @@ use Rattle.lq_records.specs.declared.ids.ContactId.{ContactId}
 use Rattle.lq_records.specs.declared.ids.ContactGroupId.{ContactGroupId}
 use Rattle.lq_objects.specs.Blocks.{Line, directive, is_named, value_of}
 use Rattle.lq_objects.specs.Kinds.{reference_directive, references, target}
-use Rattle.lq_names.specs.Names.{Name, is_same, place_of, single}
+use Rattle.lq_names.specs.Names.{Name, is_equal_name, place_of, single}
 use Rattle.lq_objects.specs.Names.{Block, is_of, name_of, named_in, text_or}
-use Rattle.lq_objects.specs.Faults.{decides, fault_if, first_of, is_empty, is_unknown, lacks_name, names_unknown, number_in, unknown_in}
+use Rattle.lq_objects.specs.Faults.{decides, fault_if, first_of, is_empty, is_unknown, lacks_name, names_unknown, number_between, unknown_in}
 use Rattle.lq_objects.specs.Objects.{distinct, host_place, ids, lines_of_kind, number_or, places, places_in}
 use Rattle.lq_objects.specs.declared.kind.Kind.{Kind}
 use Rattle.lq_objects.specs.declared.kind.Kind.TheVariants.{Host, Service}
@@ -37,7 +37,7 @@ abbrev pub IsWithin : ℕ → ℕ → ℕ → Type 0
 IsWithin least most n = (least ≤ n) × (n ≤ most)
 
 number_in-bounded : (absent least most : ℕ) (value : List ℕ) → IsWithin least most absent
-    → IsWithin least most (unwrap_or (number_in least most value) absent)
+    → IsWithin least most (unwrap_or (number_between least most value) absent)
 number_in-bounded absent least most value bounded =
     let n : ℕ = number_of value in
     let digits : Bool = nat_lt 0 (length value) && list_all is_ascii_digit value in
@@ -49,7 +49,7 @@ number_in-bounded absent least most value bounded =
     (λ _. bounded)
 
 found-bounded : (absent least most : ℕ) (found : Option (List ℕ)) → IsWithin least most absent
-    → IsWithin least most (unwrap_or (option_and_then (number_in least most) found) absent)
+    → IsWithin least most (unwrap_or (option_and_then (number_between least most) found) absent)
 found-bounded absent least most None bounded = bounded
 found-bounded absent least most (Some value) bounded = number_in-bounded absent least most value bounded
 
@@ -60,7 +60,7 @@ number_or-bounded absent least most name lines low high = found-bounded absent l
 -- ---- places
 
 place_of-within : (names : List Name) (name : Name) (place : ℕ) → place_of names name ≡ Some place → place < length names
-place_of-within names name place found = (position-Some (is_same name) names place name found).0
+place_of-within names name place found = (position-Some (is_equal_name name) names place name found).0
 
 found-places : (known : Kind → List Name) (reference : Reference) (found : Option (List ℕ))
     → ArePlaces (length (known (target reference))) (option_map_or (places_in known reference) found [])
@@ -171,13 +171,13 @@ pub record HasHost (known : Kind → List Name) (lines : List Line) : Type 0 whe
   pub is : host_place (places known ServiceHost lines) ≡ place
   pub found : place_of (known Host) (single (text_or [] (codes "host_name") lines)) ≡ Some place
 
-found-host : (known : Kind → List Name) (found : Option (List ℕ)) → is_empty (option_map_or cleaned found []) ≡ false
+found-host : (known : Kind → List Name) (found : Option (List ℕ)) → is_empty (option_map_or text_of_bytes found []) ≡ false
     → ((value : List ℕ) → found ≡ Some value → is_unknown known ServiceHost value ≡ false)
     → (place : ℕ) × (host_place (option_map_or (places_in known ServiceHost) found []) ≡ place)
-    × (place_of (known Host) (single (option_map_or cleaned found [])) ≡ Some place)
+    × (place_of (known Host) (single (option_map_or text_of_bytes found [])) ≡ Some place)
 found-host known None some there = absurd (true≢false some)
 found-host known (Some value) some there =
-    let host = some_from (place_of (known Host) (single (cleaned value))) (or_parts _ false (there value refl)).0 in
+    let host = some_from (place_of (known Host) (single (text_of_bytes value))) (or_parts _ false (there value refl)).0 in
     (host.0, ap (λ place. host_place (distinct (cons_option place []))) host.1, host.1)
 
 -- it has one, where no fault was found
@@ -199,7 +199,7 @@ host-within known lines host =
 name_at-place : (names : List Name) (text : List ℕ) (place : ℕ) → place_of names (single text) ≡ Some place
     → slice_get (map (λ (name : Name). name.first) names) place ≡ Some text
 name_at-place names text place is =
-    let found = position-Some (is_same (single text)) names place (single text) is in
+    let found = position-Some (is_equal_name (single text)) names place (single text) is in
     let name : Name = get_or names place (single text) in
     let here = and_parts (bytes_eq text name.first) _ found.1 in
     slice_get-map (λ (name : Name). name.first) names place
@@ -218,13 +218,13 @@ place_of-same : (names : List Name) (first second : List ℕ) (place : ℕ)
     → place_of names (single first) ≡ Some place → place_of names (single second) ≡ Some place → first ≡ second
 place_of-same names first second place is is' =
     let name : Name = get_or names place (single first) in
-    let here = and_parts (bytes_eq first name.first) _ (position-Some (is_same (single first)) names place (single first) is).1 in
-    let there = and_parts (bytes_eq second name.first) _ (position-Some (is_same (single second)) names place (single first) is').1 in
+    let here = and_parts (bytes_eq first name.first) _ (position-Some (is_equal_name (single first)) names place (single first) is).1 in
+    let there = and_parts (bytes_eq second name.first) _ (position-Some (is_equal_name (single second)) names place (single first) is').1 in
     (bytes_eq-Decides first name.first).0 here.0 ∙ sym ((bytes_eq-Decides second name.first).0 there.0)
 
 -- services with one host have different descriptions
 pub services-differ : (known : Kind → List Name) (a b : List Line) → HasHost known a → HasHost known b
-    → is_same (name_of Service b) (name_of Service a) ≡ false
+    → is_equal_name (name_of Service b) (name_of Service a) ≡ false
     → host_place (places known ServiceHost a) ≡ host_place (places known ServiceHost b)
     → text_or [] (codes "service_description") a ≢ text_or [] (codes "service_description") b
 services-differ known a b host host' different hosts descriptions =
@@ -232,5 +232,5 @@ services-differ known a b host host' different hosts descriptions =
     let there : place_of (known Host) (single (text_or [] (codes "host_name") a)) ≡ Some host'.place = host.found ∙ ap (λ place. Some place) same in
     let names : text_or [] (codes "host_name") b ≡ text_or [] (codes "host_name") a =
     place_of-same (known Host) _ _ host'.place host'.found there in
-    both_ways (is_same (name_of Service b) (name_of Service a)) different
+    both_ways (is_equal_name (name_of Service b) (name_of Service a)) different
     (and_from _ _ ((bytes_eq-Decides _ _).1 names) ((bytes_eq-Decides _ _).1 (sym descriptions)))

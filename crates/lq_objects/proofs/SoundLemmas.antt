@@ -14,7 +14,7 @@ use Rattle.lq_records.specs.declared.base.Rules.{Rules}
 use Rattle.lq_records.specs.declared.base.Service.{Service}
 use Rattle.lq_objects.specs.Blocks.{Line, Part, parts_of, telling_lines}
 use Rattle.lq_objects.specs.Kinds.{limit}
-use Rattle.lq_names.specs.Names.{Name, is_same}
+use Rattle.lq_names.specs.Names.{Name, is_equal_name}
 use Rattle.lq_objects.specs.Names.{Block, is_of, name_of, block_names, text_or}
 use Rattle.lq_objects.specs.Faults.{blocks_of, fault_of, is_bad_name, is_empty, lacks_name, parts_fault, unknown_fault}
 use Rattle.lq_objects.specs.Objects.{base_of, base_of_blocks, base_of_parts, base_or, command_of, contact_group_of, contact_of, fields_of, host_group_of, host_of, lines_of_kind, period_of, service_group_of, service_of}
@@ -36,9 +36,9 @@ is_empty-false [] some none = true≢false some
 is_empty-false (byte ∷ text) some none = absurd (cc)
 
 -- names of one part differ in it
-first-differs : (a b : Name) → a.second ≡ b.second → is_same b a ≡ false → a.first ≢ b.first
+first-differs : (a b : Name) → a.second ≡ b.second → is_equal_name b a ≡ false → a.first ≢ b.first
 first-differs a b seconds different firsts =
-    both_ways (is_same b a) different
+    both_ways (is_equal_name b a) different
     (and_from _ _ ((bytes_eq-Decides b.first a.first).1 (sym firsts)) ((bytes_eq-Decides b.second a.second).1 (sym seconds)))
 
 -- the names of the objects of one kind, where each is of one part
@@ -50,7 +50,7 @@ AreNames-from_fine kind all seconds fine = record {
       let a : List Line = get_or all i d in
       let b : List Line = get_or all j d in
       first-differs (name_of kind a) (name_of kind b) (seconds a ∙ sym (seconds b))
-      (AllPairs-unmap (λ a b. is_same b a ≡ false) (name_of kind) all fine.different i j d low high));
+      (AllPairs-unmap (λ a b. is_equal_name b a ≡ false) (name_of kind) all fine.different i j d low high));
   some = All-map (λ name. name ≢ []) (λ lines. (name_of kind lines).first) all
       (λ k d within. is_empty-false _ (or_parts _ _ (All-unmap (λ name. lacks_name kind name ≡ false) (name_of kind) all fine.whole k d within)).0);
 }
@@ -118,9 +118,9 @@ module _ (rules : Rules) (blocks : List Block) (fine : AllFine blocks) (none : u
       let known : Kind → List Name = block_names blocks in
       let all : List (List Line) = lines_of_kind kind.Service blocks in
       AllPairs-map AreApart (service_of known) all
-      (AllPairs-by (λ a b. is_same (name_of kind.Service b) (name_of kind.Service a) ≡ false) (λ a b. AreApart (service_of known a) (service_of known b))
+      (AllPairs-by (λ a b. is_equal_name (name_of kind.Service b) (name_of kind.Service a) ≡ false) (λ a b. AreApart (service_of known a) (service_of known b))
       (HasHost known) all (λ a b host host' different same. services-differ known a b host host' different (ap (λ id. id.0) same))
-      (AllPairs-unmap (λ a b. is_same b a ≡ false) (name_of kind.Service) all (fine_lines kind.Service).different) with_hosts)
+      (AllPairs-unmap (λ a b. is_equal_name b a ≡ false) (name_of kind.Service) all (fine_lines kind.Service).different) with_hosts)
 
   -- what holds of the objects of a kind, by a test of their names
   by_names : {X : Type 0} (kind : Kind) (object_of : List Line → X) (P : X → Type 0) (test : Name → Bool)

@@ -7,7 +7,7 @@ use Rattle.std.proofs.lemmas.List.Elements.{filter_more}
 use Rattle.std.proofs.lemmas.Slice.Eq.{bytes_eq-Decides}
 use Rattle.indexmap.specs.IndexMap.{insert_entry}
 use Rattle.lq_objects.specs.Blocks.{Line}
-use Rattle.lq_objects.specs.Objects.{custom_variables, is_variable, last_value, merged, variable_of}
+use Rattle.lq_objects.specs.Objects.{custom_variables, is_variable, last_value, merged_variables, variable_of}
 
 abbrev pub Pair : Type 0
 Pair = List ℕ × List ℕ
@@ -59,30 +59,30 @@ last_value-other : (first new : Pair) (later : List Pair) → bytes_eq first.0 n
     → last_value first (later ++ new ∷ []) ≡ last_value first later
 last_value-other first new later differs = rw (reverse-append later (new ∷ [])) (rw differs refl)
 
-merged-push : (pairs : List Pair) (new : Pair) → merged (pairs ++ new ∷ []) ≡ with_pair (merged pairs) new
+merged-push : (pairs : List Pair) (new : Pair) → merged_variables (pairs ++ new ∷ []) ≡ with_pair (merged_variables pairs) new
 merged-push [] new = refl
 merged-push (first ∷ later) new =
     let step = ap (λ rest. (first.0, last_value first (later ++ new ∷ [])) ∷ filter (is_other first.0) rest) (merged-push later new) in
     ⊎_elim
     (λ same.
     let turn = turned new.0 first.0 true same in
-    step ∙ rw same (ap₂ (λ value rest. (first.0, value) ∷ rest) (last_value-same first new later turn) (others_with_same first.0 new turn (merged later))))
+    step ∙ rw same (ap₂ (λ value rest. (first.0, value) ∷ rest) (last_value-same first new later turn) (others_with_same first.0 new turn (merged_variables later))))
     (λ differs.
     let turn = turned new.0 first.0 false differs in
-    step ∙ rw differs (ap₂ (λ value rest. (first.0, value) ∷ rest) (last_value-other first new later turn) (others_with_other first.0 new turn (merged later))))
+    step ∙ rw differs (ap₂ (λ value rest. (first.0, value) ∷ rest) (last_value-other first new later turn) (others_with_other first.0 new turn (merged_variables later))))
     (cases_Bool (bytes_eq new.0 first.0))
 
 -- ---- one line more
 
 variables_of_more : (lines : List Line) (at : ℕ) (line : Line) (answer : Bool) → at < length lines → line ≡ get_or lines at line
     → is_variable line.text ≡ answer
-    → custom_variables (take (at + 1) lines) ≡ merged (map variable_of (filter (λ other. is_variable other.text) (take at lines)) ++ map variable_of (cond answer (line ∷ []) []))
+    → custom_variables (take (at + 1) lines) ≡ merged_variables (map variable_of (filter (λ other. is_variable other.text) (take at lines)) ++ map variable_of (cond answer (line ∷ []) []))
 variables_of_more lines at line answer within is tested =
     let variables : List Line = filter (λ other. is_variable other.text) (take at lines) in
-    ap (λ kept. merged (map variable_of kept)) (filter_more (λ other. is_variable other.text) lines at line within)
-    ∙ ap (λ (next : Line). merged (map variable_of (variables ++ cond (is_variable next.text) (next ∷ []) []))) (sym is)
-    ∙ ap (λ test. merged (map variable_of (variables ++ cond test (line ∷ []) []))) tested
-    ∙ ap merged (map-append variable_of variables (cond answer (line ∷ []) []))
+    ap (λ kept. merged_variables (map variable_of kept)) (filter_more (λ other. is_variable other.text) lines at line within)
+    ∙ ap (λ (next : Line). merged_variables (map variable_of (variables ++ cond (is_variable next.text) (next ∷ []) []))) (sym is)
+    ∙ ap (λ test. merged_variables (map variable_of (variables ++ cond test (line ∷ []) []))) tested
+    ∙ ap merged_variables (map-append variable_of variables (cond answer (line ∷ []) []))
 
 -- a line of a variable
 pub variables-more : (lines : List Line) (at : ℕ) (line : Line) (before after : List Pair) → at < length lines → line ≡ get_or lines at line
@@ -98,4 +98,4 @@ pub variables-same : (lines : List Line) (at : ℕ) (line : Line) (before : List
     → before ≡ custom_variables (take at lines) → is_variable line.text ≡ false → before ≡ custom_variables (take (at + 1) lines)
 variables-same lines at line before within is so_far other =
     so_far ∙ sym (variables_of_more lines at line false within is other
-    ∙ ap merged (append-nil (map variable_of (filter (λ next. is_variable next.text) (take at lines)))))
+    ∙ ap merged_variables (append-nil (map variable_of (filter (λ next. is_variable next.text) (take at lines)))))

@@ -1,8 +1,10 @@
 -- The lines of an object file, and the parts that they make.
-use Rattle.std.specs.Prelude.{ℕ, ◌+◌, ◌-◌, ◌==◌, ◌&&◌, ◌||◌, nat_lt, nat_eq, Bool, not, Option, Some, None, List, [], ◌∷◌, length, take, drop, map, filter, find, reverse, bytes_eq, codes, slice_index, if◌then◌else◌}
+use Rattle.std.specs.Prelude.{ℕ, ◌+◌, ◌-◌, ◌==◌, ◌&&◌, ◌||◌, nat_lt, nat_eq, Bool, not, Option}
+use Rattle.std.specs.Prelude.{Some, None, List, [], ◌∷◌, length, take, drop, map, filter, find}
+use Rattle.std.specs.Prelude.{reverse, bytes_eq, codes, slice_index, if◌then◌else◌}
 use Rattle.std.specs.List.{enumerate_from, list_any, starts_with}
 use Rattle.std.specs.Option.{option_map}
-use Rattle.lq_text.specs.Blanks.{is_blank, trimmed}
+use Rattle.lq_text.specs.Blanks.{is_blank, without_blanks}
 use Rattle.lq_text.specs.Lines.{lines_of}
 
 -- ---- lines
@@ -13,7 +15,7 @@ pub record Line : Type 0 where
   pub text : List ℕ
 
 abbrev pub numbered_line : ℕ × List ℕ → Line
-numbered_line entry = record { number = entry.0 + 1; text = trimmed entry.1 }
+numbered_line entry = record { number = entry.0 + 1; text = without_blanks entry.1 }
 
 -- empty lines and lines that begin with `#` say nothing
 abbrev pub is_telling : Line → Bool
@@ -29,8 +31,8 @@ telling_lines bytes = telling_after 0 (lines_of bytes)
 -- the one word of a text, where it has exactly one
 abbrev pub one_word : List ℕ → Option (List ℕ)
 one_word text =
-    if length (trimmed text) == 0 || list_any is_blank (trimmed text) then None
-    else Some (trimmed text)
+    if length (without_blanks text) == 0 || list_any is_blank (without_blanks text) then None
+    else Some (without_blanks text)
 
 -- a line that opens a block is `define`, blanks, one word, blanks or none, `{`
 abbrev pub is_opening_text : List ℕ → Bool
@@ -75,7 +77,7 @@ is_named name text =
 
 -- its value follows the blanks
 abbrev pub value_of : List ℕ → List ℕ → List ℕ
-value_of name text = trimmed (drop (length name) text)
+value_of name text = without_blanks (drop (length name) text)
 
 -- the value of the directive with a name; of several the last decides
 abbrev pub directive : List ℕ → List Line → Option (List ℕ)

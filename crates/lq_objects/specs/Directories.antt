@@ -1,10 +1,11 @@
 -- The names of the objects so far, by kind.
 use Rattle.std.specs.Prelude.{◌≡◌, List, [], ◌∷◌, ◌++◌, map}
-use Rattle.lq_names.specs.Names.{Name, parts_of}
+use Rattle.lq_names.specs.Names.{Name, both_parts}
 use Rattle.lq_records.specs.declared.base.Base.{Base}
 use Rattle.lq_objects.specs.Names.{Block, block_names}
 use Rattle.lq_objects.specs.declared.kind.Kind.{Kind}
-use Rattle.lq_objects.specs.declared.kind.Kind.TheVariants.{Host, Service, HostGroup, ServiceGroup, Contact, ContactGroup, Period, Command}
+use Rattle.lq_objects.specs.declared.kind.Kind.TheVariants.{Host, Service, HostGroup, ServiceGroup}
+use Rattle.lq_objects.specs.declared.kind.Kind.TheVariants.{Contact, ContactGroup, Period, Command}
 use Rattle.lq_objects.specs.declared.directory.Directory.{Directory}
 
 abbrev pub empty : Directory
@@ -58,18 +59,18 @@ directory_of blocks = record {
 
 -- the names are those of the objects of a base by which these are found, each at its object's place
 pub record AreNamesOf (directory : Directory) (base : Base) : Type 0 where
-  pub hosts : map parts_of directory.hosts ≡ map (λ host. (host.host_name, [])) base.hosts
+  pub hosts : map both_parts directory.hosts ≡ map (λ host. (host.host_name, [])) base.hosts
   pub services :
-      map parts_of directory.services
+      map both_parts directory.services
       ≡ map (λ service. (service.host_name, service.service_description)) base.services
   pub host_groups :
-      map parts_of directory.host_groups
+      map both_parts directory.host_groups
       ≡ map (λ group. (group.hostgroup_name, [])) base.host_groups
   pub service_groups :
-      map parts_of directory.service_groups
+      map both_parts directory.service_groups
       ≡ map (λ group. (group.servicegroup_name, [])) base.service_groups
   pub contacts :
-      map parts_of directory.contacts ≡ map (λ contact. (contact.contact_name, [])) base.contacts
+      map both_parts directory.contacts ≡ map (λ contact. (contact.contact_name, [])) base.contacts
   pub contact_groups :
-      map parts_of directory.contact_groups
+      map both_parts directory.contact_groups
       ≡ map (λ group. (group.contactgroup_name, [])) base.contact_groups

@@ -11,8 +11,8 @@ use Rattle.lq_objects.specs.declared.kind.Kind.{Kind}
 use Rattle.lq_objects.specs.declared.kind.Reference.TheVariants as reference
 
 -- the base of the objects so far
-abbrev pub drafted : Draft → Base
-drafted draft = record {
+abbrev pub base_of_draft : Draft → Base
+base_of_draft draft = record {
   hosts = draft.hosts;
   services = draft.services;
   host_groups = draft.host_groups;

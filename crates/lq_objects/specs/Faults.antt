@@ -1,19 +1,24 @@
 -- What is wrong with an object file: the first fault in it.
-use Rattle.std.specs.Prelude.{ℕ, ◌==◌, ◌&&◌, ◌||◌, nat_lt, nat_le, Bool, true, false, not, Option, Some, None, List, [], ◌∷◌, ◌++◌, length, is_none, is_some, codes, if◌then◌else◌}
+use Rattle.std.specs.Prelude.{ℕ, ◌==◌, ◌&&◌, ◌||◌, nat_lt, nat_le, Bool, true, false, not, Option}
+use Rattle.std.specs.Prelude.{Some, None, List, [], ◌∷◌, ◌++◌, length, is_none, is_some, codes}
+use Rattle.std.specs.Prelude.{if◌then◌else◌}
 use Rattle.std.specs.List.{list_any, list_all}
 use Rattle.std.specs.Option.{option_or, option_map_or, option_and_then}
 use Rattle.std.specs.Char.{is_ascii_digit}
 use Rattle.lq_text.specs.Numbers.{number_of}
 use Rattle.lq_objects.specs.Blocks.{Line, Part, is_named, value_of, opened_word}
-use Rattle.lq_objects.specs.Kinds.{kind_named, limit, second_directive, references, reference_directive, target}
-use Rattle.lq_names.specs.Names.{Name, is_same, place_of}
+use Rattle.lq_objects.specs.Kinds.{kind_named, limit, second_directive, references}
+use Rattle.lq_objects.specs.Kinds.{reference_directive, target}
+use Rattle.lq_names.specs.Names.{Name, is_equal_name, place_of}
 use Rattle.lq_objects.specs.Names.{Block, name_of, named_in, block_names}
 use Rattle.lq_objects.specs.declared.kind.Kind.{Kind}
 use Rattle.lq_objects.specs.declared.kind.Kind.TheVariants as kind
 use Rattle.lq_objects.specs.declared.kind.Reference.{Reference}
 use Rattle.lq_objects.specs.declared.fault.Fault.{Fault}
 use Rattle.lq_objects.specs.declared.fault.ObjectsWhat.{ObjectsWhat}
-use Rattle.lq_objects.specs.declared.fault.ObjectsWhat.TheVariants.{Stray, NotFlattened, BadNumber, NoName, BadName, Twice, TooMany, Unclosed, UnknownName}
+use Rattle.lq_objects.specs.declared.fault.ObjectsWhat.TheVariants.{Stray, NotFlattened, BadNumber}
+use Rattle.lq_objects.specs.declared.fault.ObjectsWhat.TheVariants.{NoName, BadName, Twice, TooMany}
+use Rattle.lq_objects.specs.declared.fault.ObjectsWhat.TheVariants.{Unclosed, UnknownName}
 
 -- a fault at a line, where a test holds
 abbrev pub fault_if : Bool → ℕ → ObjectsWhat → Option Fault
@@ -27,8 +32,8 @@ first_of f (x ∷ xs) = option_or (f x) (first_of f xs)
 -- ---- a line in a block
 
 -- the number that a value says, where it is in a range
-abbrev pub number_in : ℕ → ℕ → List ℕ → Option ℕ
-number_in least most value =
+abbrev pub number_between : ℕ → ℕ → List ℕ → Option ℕ
+number_between least most value =
     if nat_lt 0 (length value) && list_all is_ascii_digit value && nat_le least (number_of value)
     && nat_le (number_of value) most
     then Some (number_of value) else None
@@ -36,7 +41,7 @@ number_in least most value =
 -- whether a line is a directive with a number that isn't in its range
 abbrev pub is_bad : ℕ → ℕ → List ℕ → List ℕ → Bool
 is_bad least most name text =
-    is_named name text && is_none (number_in least most (value_of name text))
+    is_named name text && is_none (number_between least most (value_of name text))
 
 -- hosts and services have numbers
 abbrev pub has_numbers : Kind → Bool
@@ -94,7 +99,7 @@ abbrev pub name_fault : Kind → List Name → Name → ℕ → Option Fault
 name_fault kind earlier name line =
     option_or (fault_if (lacks_name kind name) line NoName)
     (option_or (fault_if (is_bad_name kind name) line BadName)
-    (option_or (fault_if (list_any (is_same name) earlier) line Twice)
+    (option_or (fault_if (list_any (is_equal_name name) earlier) line Twice)
     (fault_if (nat_le (limit kind) (length earlier)) line TooMany)))
 
 -- ---- a part

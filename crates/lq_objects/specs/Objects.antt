@@ -1,9 +1,11 @@
 -- The objects that the blocks of an object file say.
-use Rattle.std.specs.Prelude.{ℕ, nat_eq, Bool, not, Option, Some, None, Result, Ok, Err, List, [], ◌∷◌, ◌++◌, map, filter, take, reverse, find, unwrap_or, bytes_eq, codes}
+use Rattle.std.specs.Prelude.{ℕ, nat_eq, Bool, not, Option, Some, None, Result, Ok, Err, List, []}
+use Rattle.std.specs.Prelude.{◌∷◌, ◌++◌, map, filter, take, reverse, find, unwrap_or, bytes_eq}
+use Rattle.std.specs.Prelude.{codes}
 use Rattle.std.specs.List.{filter_map, prefix_len, starts_with}
 use Rattle.std.specs.Option.{option_map_or, option_and_then}
 use Rattle.lq_text.specs.Blanks.{is_blank}
-use Rattle.lq_records.specs.Clean.{cleaned}
+use Rattle.lq_records.specs.Clean.{text_of_bytes}
 use Rattle.lq_records.specs.declared.base.Rules.{Rules}
 use Rattle.lq_records.specs.declared.base.Base.{Base}
 use Rattle.lq_records.specs.declared.base.ObjectFields.{ObjectFields}
@@ -19,7 +21,7 @@ use Rattle.lq_objects.specs.Blocks.{Line, Part, directive, parts_of, telling_lin
 use Rattle.lq_objects.specs.Kinds.{reference_directive, target}
 use Rattle.lq_names.specs.Names.{Name, place_of}
 use Rattle.lq_objects.specs.Names.{Block, is_of, named_in, block_names, text_or}
-use Rattle.lq_objects.specs.Faults.{blocks_of, fault_of, number_in}
+use Rattle.lq_objects.specs.Faults.{blocks_of, fault_of, number_between}
 use Rattle.lq_objects.specs.declared.fault.Fault.{Fault}
 use Rattle.lq_objects.specs.declared.kind.Kind.{Kind}
 use Rattle.lq_objects.specs.declared.kind.Kind.TheVariants as kind
@@ -53,7 +55,7 @@ ids id_at known reference lines = map id_at (places known reference lines)
 -- the number of a directive
 abbrev pub number_or : ℕ → ℕ → ℕ → List ℕ → List Line → ℕ
 number_or absent least most name lines =
-    unwrap_or (option_and_then (number_in least most) (directive name lines)) absent
+    unwrap_or (option_and_then (number_between least most) (directive name lines)) absent
 
 -- a custom variable is a directive that begins with `_`; its name goes up to the first blank
 abbrev pub is_variable : List ℕ → Bool
@@ -63,8 +65,10 @@ abbrev pub variable_name : List ℕ → List ℕ
 variable_name text = take (prefix_len (λ byte. not (is_blank byte)) text) text
 
 abbrev pub variable_of : Line → List ℕ × List ℕ
-variable_of line =
-    (cleaned (variable_name line.text), cleaned (value_of (variable_name line.text) line.text))
+variable_of line = (
+  text_of_bytes (variable_name line.text),
+  text_of_bytes (value_of (variable_name line.text) line.text),
+)
 
 -- the value of the last variable with a name
 abbrev pub last_value : List ℕ × List ℕ → List (List ℕ × List ℕ) → List ℕ
@@ -73,14 +77,15 @@ last_value first later =
     (find (λ other. bytes_eq first.0 other.0) (reverse later)) first.1
 
 -- each name once, where it first comes, with its last value
-abbrev pub merged : List (List ℕ × List ℕ) → List (List ℕ × List ℕ)
-merged [] = []
-merged (first ∷ later) =
+abbrev pub merged_variables : List (List ℕ × List ℕ) → List (List ℕ × List ℕ)
+merged_variables [] = []
+merged_variables (first ∷ later) =
     (first.0, last_value first later)
-    ∷ filter (λ other. not (bytes_eq first.0 other.0)) (merged later)
+    ∷ filter (λ other. not (bytes_eq first.0 other.0)) (merged_variables later)
 
 abbrev pub custom_variables : List Line → List (List ℕ × List ℕ)
-custom_variables lines = merged (map variable_of (filter (λ line. is_variable line.text) lines))
+custom_variables lines =
+    merged_variables (map variable_of (filter (λ line. is_variable line.text) lines))
 
 -- what hosts and services share; the display name is the object's own where it is absent
 abbrev pub fields_of : (Kind → List Name) → List ℕ → List Line → ObjectFields

@@ -4,7 +4,9 @@ use Rattle.lq_objects.specs.declared.fault.Fault.{Fault}
 use Rattle.lq_objects.specs.declared.fault.ObjectsErr.{ObjectsErr}
 use Rattle.lq_objects.specs.declared.fault.ObjectsErr.TheVariants.{At, Memory}
 use Rattle.lq_objects.specs.declared.fault.ObjectsWhat.{ObjectsWhat}
-use Rattle.lq_objects.specs.declared.fault.ObjectsWhat.TheVariants.{Stray, NotFlattened, BadNumber, NoName, BadName, Twice, TooMany, Unclosed, UnknownName}
+use Rattle.lq_objects.specs.declared.fault.ObjectsWhat.TheVariants.{Stray, NotFlattened, BadNumber}
+use Rattle.lq_objects.specs.declared.fault.ObjectsWhat.TheVariants.{NoName, BadName, Twice, TooMany}
+use Rattle.lq_objects.specs.declared.fault.ObjectsWhat.TheVariants.{Unclosed, UnknownName}
 
 -- a result is what was read, or out of memory
 abbrev pub Reads : {X : Type 0} → Result X ObjectsErr → Result X Fault → Type 0

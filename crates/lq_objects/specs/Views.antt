@@ -6,8 +6,8 @@ use Rattle.lq_objects.specs.Blocks.{Part}
 use Rattle.lq_objects.specs.declared.part.Part as declared
 
 -- the texts that are lent
-abbrev pub borrowed : List (Bor (List ℕ)) → List (List ℕ)
-borrowed texts = map (λ text. text.now) texts
+abbrev pub lent_texts : List (Bor (List ℕ)) → List (List ℕ)
+lent_texts texts = map (λ text. text.now) texts
 
 -- a part as its lines
 abbrev pub part_of : declared.Part → Part

@@ -2,7 +2,9 @@ ghost use Rattle.std.specs.Prelude.{◌≡◌, ℕ, None, IfOk, OnOk, option_map
 ghost use Rattle.std.specs.Option.{option_copied, option_to_list};
 ghost use Rattle.lq_objects.specs.Checks.{Checks, with_blocks};
 ghost use Rattle.lq_objects.specs.Directories.{known, with_name};
-ghost use Rattle.lq_objects.specs.Faults.{block_of, directive_fault, first_of, has_separator, inner_fault, is_bad_name, known_block, lacks_name, name_fault, opened_fault, part_fault};
+ghost use Rattle.lq_objects.specs.Faults.{block_of, directive_fault, first_of, has_separator};
+ghost use Rattle.lq_objects.specs.Faults.{inner_fault, is_bad_name, known_block, lacks_name};
+ghost use Rattle.lq_objects.specs.Faults.{name_fault, opened_fault, part_fault};
 ghost use Rattle.lq_names.specs.Names.{place_of};
 
 use crate::block::Block;
@@ -40,7 +42,7 @@ pub(crate) fn read_part<'p, 'a>(
     };
     let opened = Opened {
         opening: opening.number(),
-        kind: Kind::named(word),
+        kind: Kind::of_word(word),
         lines,
         closing: part.closing,
     };

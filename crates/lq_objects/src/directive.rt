@@ -2,7 +2,7 @@ ghost use Rattle.std.specs.Prelude.{◌≡◌};
 ghost use Rattle.std.specs.List.{starts_with};
 ghost use Rattle.std.specs.Option.{option_copied};
 ghost use Rattle.lq_objects.specs.Blocks.{directive, value_of};
-ghost use Rattle.lq_objects.specs.Faults.{is_bad, is_bad_number, is_template, number_in};
+ghost use Rattle.lq_objects.specs.Faults.{is_bad, is_bad_number, is_template, number_between};
 ghost use Rattle.lq_objects.specs.Objects.{is_variable};
 
 use crate::kind::Kind;
@@ -31,8 +31,9 @@ pub(crate) fn directive<'a>(name: &[u8], lines: &[Line<'a>]) -> Option<&'a [u8]>
 }
 
 /// The number that a value says, where it is in a range.
-pub(crate) fn number_in(least: u32, most: u32, value: &[u8]) -> Option<u32>
-    ensures { result ≡ number_in least most value.now }
+#[inline(never)]
+pub(crate) fn number_between(least: u32, most: u32, value: &[u8]) -> Option<u32>
+    ensures { result ≡ number_between least most value.now }
 {
     match read_u64(value) {
         Some(number) if u64::from(least) <= number && number <= u64::from(most) => {
@@ -43,10 +44,11 @@ pub(crate) fn number_in(least: u32, most: u32, value: &[u8]) -> Option<u32>
 }
 
 /// Whether a line is a directive with a number that isn't in its range.
+#[inline(always)]
 fn is_bad(least: u32, most: u32, name: &[u8], line: &Line<'_>) -> bool
     ensures { result ≡ is_bad least most name.now line.now.text }
 {
-    line.is_named(name) && number_in(least, most, value_of(name, line.text())).is_none()
+    line.is_named(name) && number_between(least, most, value_of(name, line.text())).is_none()
 }
 
 /// Whether a line in a block of a kind has a number that isn't in its range.

@@ -1,5 +1,5 @@
 ghost use Rattle.std.specs.Prelude.{◌≡◌, List, [], IfOk, map};
-ghost use Rattle.lq_names.specs.Names.{Name, parts_of};
+ghost use Rattle.lq_names.specs.Names.{Name, both_parts};
 ghost use Rattle.lq_objects.specs.Directories.{AreNamesOf};
 ghost use Rattle.lq_objects.specs.Objects.{objects_of};
 
@@ -27,11 +27,11 @@ pub(crate) struct Draft {
 }
 
 impl Draft {
-    ghost use Rattle.lq_objects.specs.Drafts.{drafted};
+    ghost use Rattle.lq_objects.specs.Drafts.{base_of_draft};
 
     /// No objects. It takes no memory.
     pub(crate) fn new(alloc: Global, rules: Rules) -> Self
-        ensures { (names : Kind → List Name) → drafted result ≡ objects_of names rules [] }
+        ensures { (names : Kind → List Name) → base_of_draft result ≡ objects_of names rules [] }
     {
         Draft {
             hosts: Items::new(alloc),
@@ -49,16 +49,16 @@ impl Draft {
     /// The base, in which objects are found by the names of the directory, which are theirs. The
     /// only error is that memory runs out.
     pub(crate) fn finish(self, alloc: Global, names: Directory) -> Result<Base, AllocError>
-        requires { AreNamesOf names (drafted self) }
-        ensures { IfOk result (λ base. base ≡ drafted self) }
+        requires { AreNamesOf names (base_of_draft self) }
+        ensures { IfOk result (λ base. base ≡ base_of_draft self) }
     {
         Ok(Base {
-            hosts: MonitoredItems::new(alloc, named(self.hosts, names.hosts))?,
-            services: MonitoredItems::new(alloc, named(self.services, names.services))?,
-            host_groups: named(self.host_groups, names.host_groups),
-            service_groups: named(self.service_groups, names.service_groups),
-            contacts: named(self.contacts, names.contacts),
-            contact_groups: named(self.contact_groups, names.contact_groups),
+            hosts: MonitoredItems::new(alloc, named_items(self.hosts, names.hosts))?,
+            services: MonitoredItems::new(alloc, named_items(self.services, names.services))?,
+            host_groups: named_items(self.host_groups, names.host_groups),
+            service_groups: named_items(self.service_groups, names.service_groups),
+            contacts: named_items(self.contacts, names.contacts),
+            contact_groups: named_items(self.contact_groups, names.contact_groups),
             periods: self.periods,
             commands: self.commands,
             rules: self.rules,
@@ -67,8 +67,8 @@ impl Draft {
 }
 
 /// Objects in order, which are found by names that are theirs. It takes no memory.
-fn named<T: NamedObject>(items: Items<T>, names: NameIndex) -> NamedItems<T>
-    requires { map parts_of names ≡ map T.name_of items }
+fn named_items<T: NamedObject>(items: Items<T>, names: NameIndex) -> NamedItems<T>
+    requires { map both_parts names ≡ map T.name_of items }
     ensures { result ≡ items }
 {
     NamedItems::new(items.into_vec(), names.into_names())

@@ -1,7 +1,8 @@
 ghost use Rattle.std.specs.Prelude.{◌≡◌};
 ghost use Rattle.std.specs.Option.{option_copied};
 ghost use Rattle.lq_objects.specs.Faults.{has_numbers};
-ghost use Rattle.lq_objects.specs.Kinds.{kind_named, limit, name_directive, reference_directive, references, second_directive, target};
+ghost use Rattle.lq_objects.specs.Kinds.{kind_named, limit, name_directive, reference_directive};
+ghost use Rattle.lq_objects.specs.Kinds.{references, second_directive, target};
 
 /// The most hosts, the most contacts, and the most commands. With one more the file is refused.
 const MOST_OBJECTS: usize = 10_000;
@@ -27,7 +28,7 @@ pub(crate) enum Kind {
 
 impl Kind {
     /// The kind that the word after `define` names.
-    pub(crate) fn named(word: &[u8]) -> Option<Self>
+    pub(crate) fn of_word(word: &[u8]) -> Option<Self>
         ensures { result ≡ kind_named word.now }
     {
         if word == b"host".as_slice() {

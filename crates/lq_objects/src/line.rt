@@ -1,4 +1,5 @@
-ghost use Rattle.std.specs.Prelude.{◌≡◌, ℕ, IsTrue, ◌<◌, ◌≤◌, ◌==◌, ◌||◌, ◌&&◌, IfOk, length, slice_index};
+ghost use Rattle.std.specs.Prelude.{◌≡◌, ℕ, IsTrue, ◌<◌, ◌≤◌, ◌==◌, ◌||◌, ◌&&◌, IfOk, length};
+ghost use Rattle.std.specs.Prelude.{slice_index, take};
 ghost use Rattle.std.specs.List.{list_any};
 ghost use Rattle.std.specs.Option.{option_copied};
 ghost use Rattle.lq_text.specs.Blanks.{is_blank};
@@ -65,12 +66,11 @@ impl<'a> Line<'a> {
         }
     }
 
-    /// Whether the line is the directive with a name. What follows the name is looked at first,
-    /// since it alone tells it for most lines.
+    /// Whether the line is the directive with a name.
     pub(crate) fn is_named(&self, name: &[u8]) -> bool
         ensures { result ≡ is_named name.now self.now.text }
     {
-        has_end_at(self.text, name.len()) && self.text.starts_with(name)
+        is_named(name, self.text)
     }
 
     /// The word at the front.
@@ -91,7 +91,10 @@ impl<'a> Line<'a> {
     fn is_known(&self) -> bool
         ensures { result ≡ is_known self.now.text }
     {
-        is_known(word_length(self.text), self.text)
+        match self.text.first() {
+            Some(first) => is_known(*first, self.text),
+            None => false,
+        }
     }
 
     /// Whether the line opens or closes a block.
@@ -141,6 +144,22 @@ pub(crate) fn needed_lines(alloc: Global, b: &[u8]) -> Result<Vec<Line<'_>>, All
         at = next;
     }
     Ok(lines)
+}
+
+/// Whether a text is the directive with a name. What follows the name is looked at first, since it
+/// alone tells it for most lines.
+#[inline(always)]
+pub(crate) fn is_named(name: &[u8], text: &[u8]) -> bool
+    ensures { result ≡ is_named name.now text.now }
+{
+    has_end_at(text, name.len()) && name == front(text, name.len())
+}
+
+/// So many bytes from the front, or all where there are fewer.
+fn front(text: &[u8], most: usize) -> &[u8]
+    ensures { result.now ≡ take most text.now }
+{
+    &text[..most.min(text.len())]
 }
 
 /// Whether a word of so many bytes may stand at the front: a blank follows it, or nothing does.

@@ -1,9 +1,9 @@
 ghost use Rattle.std.specs.Prelude.{◌≡◌, ◌==◌, ◌∷◌, [], IfOk, filter, map};
 ghost use Rattle.std.specs.Option.{option_map};
-ghost use Rattle.lq_records.specs.Clean.{cleaned};
+ghost use Rattle.lq_records.specs.Clean.{text_of_bytes};
 ghost use Rattle.lq_names.specs.Names.{place_of, single};
-ghost use Rattle.lq_objects.specs.Names.{elements, named_in, pairs_of, pieces_of};
-ghost use Rattle.lq_objects.specs.Views.{borrowed};
+ghost use Rattle.lq_objects.specs.Names.{elements, named_in, names_in_pairs, pieces_of};
+ghost use Rattle.lq_objects.specs.Views.{lent_texts};
 
 use crate::kind::Reference;
 use crate::texts::Texts;
@@ -34,7 +34,7 @@ pub(crate) fn named_in(
 
 /// What stands between commas, without blanks round it and without what is empty.
 fn pieces(alloc: Global, value: &[u8]) -> Result<Vec<&[u8]>, AllocError>
-    ensures { IfOk result (λ pieces. borrowed pieces.items ≡ pieces_of value.now) }
+    ensures { IfOk result (λ pieces. lent_texts pieces.items ≡ pieces_of value.now) }
 {
     value
         .split(|byte| *byte == b',')
@@ -49,7 +49,7 @@ pub(crate) fn place_of_whole(
     index: &NameIndex,
     value: &[u8],
 ) -> Result<Option<u32>, AllocError>
-    ensures { IfOk result (λ place. place ≡ place_of index.now (single (cleaned value.now))) }
+    ensures { IfOk result (λ place. place ≡ place_of index.now (single (text_of_bytes value.now))) }
 {
     let name = Name::single(texts.text(value)?);
     Ok(index.find(&name))
@@ -57,7 +57,7 @@ pub(crate) fn place_of_whole(
 
 /// A value that is one name.
 fn whole(texts: &Texts, value: &[u8]) -> Result<Vec<Name>, AllocError>
-    ensures { IfOk result (λ names. names.items ≡ single (cleaned value.now) ∷ []) }
+    ensures { IfOk result (λ names. names.items ≡ single (text_of_bytes value.now) ∷ []) }
 {
     let mut names = Vec::new(texts.alloc());
     names.push(Name::single(texts.text(value)?))?;
@@ -66,7 +66,8 @@ fn whole(texts: &Texts, value: &[u8]) -> Result<Vec<Name>, AllocError>
 
 /// Names of one part.
 fn singles(texts: &Texts, pieces: &[&[u8]]) -> Result<Vec<Name>, AllocError>
-    ensures { IfOk result (λ names. names.items ≡ map single (map cleaned (borrowed pieces.now))) }
+    ensures { IfOk result (λ names. names.items ≡ map single
+        (map text_of_bytes (lent_texts pieces.now))) }
 {
     let mut names = Vec::new(texts.alloc());
     for piece in pieces {
@@ -79,7 +80,7 @@ fn singles(texts: &Texts, pieces: &[&[u8]]) -> Result<Vec<Name>, AllocError>
 fn pairs(texts: &Texts, pieces: &[&[u8]]) -> Result<Option<Vec<Name>>, AllocError>
     ensures { IfOk result
         (λ names. option_map (λ list. list.items) names
-        ≡ pairs_of (map cleaned (borrowed pieces.now))) }
+        ≡ names_in_pairs (map text_of_bytes (lent_texts pieces.now))) }
 {
     let mut names = Vec::new(texts.alloc());
     let mut at = 0;

@@ -1,14 +1,15 @@
 ghost use Rattle.std.specs.Prelude.{◌≡◌, ◌≤◌, List, [], IfOk, OnOk, map};
 ghost use Rattle.lq_names.specs.Names.{Name};
 ghost use Rattle.lq_objects.specs.Directories.{directory_of, known};
-ghost use Rattle.lq_objects.specs.Drafts.{drafted, numbers_of, with_lists, with_texts};
+ghost use Rattle.lq_objects.specs.Drafts.{base_of_draft, numbers_of, with_lists, with_texts};
 ghost use Rattle.lq_objects.specs.Names.{text_or};
 ghost use Rattle.lq_objects.specs.Objects.{command_of, contact_group_of, contact_of, fields_of};
-ghost use Rattle.lq_objects.specs.Objects.{host_group_of, host_of, number_or, objects_of, period_of};
+ghost use Rattle.lq_objects.specs.Objects.{host_group_of, host_of, number_or, objects_of};
+ghost use Rattle.lq_objects.specs.Objects.{period_of};
 ghost use Rattle.lq_objects.specs.Objects.{places, service_group_of, service_of, with_object};
 
 use crate::block::Block;
-use crate::directive::{MOST_ATTEMPTS, directive, number_in};
+use crate::directive::{MOST_ATTEMPTS, directive, number_between};
 use crate::directory::Directory;
 use crate::draft::Draft;
 use crate::kind::{Kind, Reference};
@@ -45,7 +46,7 @@ fn draft_of(
     blocks: &[Block<'_, '_>],
 ) -> Result<Draft, AllocError>
     ensures { IfOk result
-        (λ draft. drafted draft ≡ objects_of (known directory.now) rules blocks.now) }
+        (λ draft. base_of_draft draft ≡ objects_of (known directory.now) rules blocks.now) }
 {
     let mut draft = Draft::new(texts.alloc(), rules);
     for block in blocks {
@@ -70,8 +71,8 @@ struct Reader<'r, 'a> {
 impl<'r, 'a> Reader<'r, 'a> {
     /// Adds the block's own object at the end of its kind.
     fn add_to(&self, draft: &mut Draft, kind: Kind) -> Result<(), AllocError>
-        ensures { OnOk result (drafted draft.new ≡ with_object
-            (known self.now.directory.now) (drafted draft.old) kind self.now.lines.now) }
+        ensures { OnOk result (base_of_draft draft.new ≡ with_object
+            (known self.now.directory.now) (base_of_draft draft.old) kind self.now.lines.now) }
     {
         match kind {
             Kind::Host => draft.hosts.push(self.host()?)?,
@@ -277,6 +278,6 @@ fn number_or_one(least: u32, most: u32, name: &[u8], lines: &[Line<'_>]) -> u32
     ensures within { result ≤ most }
 {
     directive(name, lines)
-        .and_then(|value| number_in(least, most, value))
+        .and_then(|value| number_between(least, most, value))
         .unwrap_or(1)
 }

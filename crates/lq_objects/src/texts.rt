@@ -1,5 +1,5 @@
 ghost use Rattle.std.specs.Prelude.{◌≡◌, ◌<◌, IfOk};
-ghost use Rattle.lq_records.specs.Clean.{cleaned};
+ghost use Rattle.lq_records.specs.Clean.{text_of_bytes};
 
 use lq_records::{Text, clean_text};
 use std::alloc::{AllocError, Global};
@@ -35,7 +35,7 @@ impl Texts {
 
     /// The text of a value, as `clean_text` gives it. The only error is that memory runs out.
     pub(crate) fn text(&self, value: &[u8]) -> Result<Text, AllocError>
-        ensures { IfOk result (λ text. text ≡ cleaned value.now) }
+        ensures { IfOk result (λ text. text ≡ text_of_bytes value.now) }
     {
         let Some(recent) = self.recent.get(place_of(value)) else {
             return clean_text(self.alloc, value);
@@ -48,7 +48,7 @@ impl Texts {
 
 /// A known text, where its bytes are those of a value, or else a new one.
 fn text_by(alloc: Global, known: Text, value: &[u8]) -> Result<Text, AllocError>
-    ensures { IfOk result (λ text. text ≡ cleaned value.now) }
+    ensures { IfOk result (λ text. text ≡ text_of_bytes value.now) }
 {
     if known.as_str().as_bytes() == value {
         Ok(known)

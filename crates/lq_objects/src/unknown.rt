@@ -1,7 +1,8 @@
 ghost use Rattle.std.specs.Prelude.{◌≡◌, IfOk, is_none};
 ghost use Rattle.std.specs.List.{list_any};
 ghost use Rattle.lq_objects.specs.Directories.{known};
-ghost use Rattle.lq_objects.specs.Faults.{decides, first_of, is_unknown, names_unknown, unknown_in, unknown_in_block};
+ghost use Rattle.lq_objects.specs.Faults.{decides, first_of, is_unknown, names_unknown, unknown_in};
+ghost use Rattle.lq_objects.specs.Faults.{unknown_in_block};
 ghost use Rattle.lq_objects.specs.Blocks.{is_named};
 ghost use Rattle.lq_names.specs.Names.{place_of};
 

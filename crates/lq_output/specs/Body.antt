@@ -1,7 +1,7 @@
 -- The text of lines and of whole bodies, in the formats of the manual's header `OutputFormat`.
 use Rattle.std.specs.Prelude.{ℕ, List, [], ◌∷◌, ◌++◌, map}
 use Rattle.lq_schema.specs.Value.{Value}
-use Rattle.lq_output.specs.Cells.{cell_text, joined}
+use Rattle.lq_output.specs.Cells.{cell_text, joined_texts}
 use Rattle.lq_records.specs.declared.format.Format.{Format}
 use Rattle.lq_records.specs.declared.format.Format.TheVariants as format
 use Rattle.lq_output.specs.declared.layout.Layout.{Layout}
@@ -48,17 +48,18 @@ abbrev pub marks_of : Layout → Marks
 marks_of layout = marks_in layout.format layout.separators
 
 -- a line of cells
-abbrev pub line_text : Layout → List Value → List ℕ
-line_text layout cells =
+abbrev pub line_of_values : Layout → List Value → List ℕ
+line_of_values layout cells =
     let marks = marks_of layout in
     marks.line_start
-    ++ (joined marks.between_cells (map (cell_text layout) cells) ++ marks.line_end)
+    ++ (joined_texts marks.between_cells (map (cell_text layout) cells) ++ marks.line_end)
 
 -- a body of lines
 abbrev pub body_text : Layout → List (List Value) → List ℕ
 body_text layout lines =
     let marks = marks_of layout in
-    marks.start ++ (joined marks.between_lines (map (line_text layout) lines) ++ marks.finish)
+    marks.start
+    ++ (joined_texts marks.between_lines (map (line_of_values layout) lines) ++ marks.finish)
 
 -- the most bytes of a body
 abbrev pub body_limit : ℕ

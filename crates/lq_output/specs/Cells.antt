@@ -15,9 +15,9 @@ use Rattle.lq_records.specs.declared.format.Separators.{Separators}
 -- 91 `[`, 93 `]` and 124 `|`.
 
 -- texts with the same text between them
-abbrev pub joined : List ℕ → List (List ℕ) → List ℕ
-joined between [] = []
-joined between (text ∷ texts) = text ++ flat_map (λ later. between ++ later) texts
+abbrev pub joined_texts : List ℕ → List (List ℕ) → List ℕ
+joined_texts between [] = []
+joined_texts between (text ∷ texts) = text ++ flat_map (λ later. between ++ later) texts
 
 -- ---- csv
 
@@ -30,9 +30,9 @@ abbrev pub plain_text : ℕ → ℕ → Value → List ℕ
 plain_text list pair (Number number) = signed_decimal number
 plain_text list pair (Millionths number) = micro_text number
 plain_text list pair (Words text) = text
-plain_text list pair (Texts texts) = joined (list ∷ []) texts
-plain_text list pair (Numbers numbers) = joined (list ∷ []) (map decimal numbers)
-plain_text list pair (Pairs pairs) = joined (list ∷ []) (map (pair_text pair) pairs)
+plain_text list pair (Texts texts) = joined_texts (list ∷ []) texts
+plain_text list pair (Numbers numbers) = joined_texts (list ∷ []) (map decimal numbers)
+plain_text list pair (Pairs pairs) = joined_texts (list ∷ []) (map (pair_text pair) pairs)
 
 -- ---- CSV
 
@@ -41,27 +41,28 @@ abbrev pub is_special : ℕ → Bool
 is_special byte = (byte == 44) || (byte == 34) || (byte == 13) || (byte == 10)
 
 -- a quote is written twice
-abbrev pub doubled : ℕ → List ℕ
-doubled byte = if byte == 34 then 34 ∷ 34 ∷ [] else byte ∷ []
+abbrev pub doubled_quote : ℕ → List ℕ
+doubled_quote byte = if byte == 34 then 34 ∷ 34 ∷ [] else byte ∷ []
 
 -- a text as a field of RFC 4180
-abbrev pub field : List ℕ → List ℕ
-field text = if list_any is_special text then 34 ∷ (flat_map doubled text ++ 34 ∷ []) else text
+abbrev pub csv_field : List ℕ → List ℕ
+csv_field text =
+    if list_any is_special text then 34 ∷ (flat_map doubled_quote text ++ 34 ∷ []) else text
 
 -- the items of a list have `,` between them, the parts of a pair `|`; digits need no quotes
 abbrev pub field_text : Value → List ℕ
 field_text (Number number) = signed_decimal number
 field_text (Millionths number) = micro_text number
-field_text (Words text) = field text
-field_text (Texts texts) = field (plain_text 44 124 (Texts texts))
-field_text (Numbers numbers) = field (plain_text 44 124 (Numbers numbers))
-field_text (Pairs pairs) = field (plain_text 44 124 (Pairs pairs))
+field_text (Words text) = csv_field text
+field_text (Texts texts) = csv_field (plain_text 44 124 (Texts texts))
+field_text (Numbers numbers) = csv_field (plain_text 44 124 (Numbers numbers))
+field_text (Pairs pairs) = csv_field (plain_text 44 124 (Pairs pairs))
 
 -- ---- json
 
 -- a list of the texts of its items
 abbrev pub json_list : List (List ℕ) → List ℕ
-json_list items = 91 ∷ (joined (44 ∷ []) items ++ 93 ∷ [])
+json_list items = 91 ∷ (joined_texts (44 ∷ []) items ++ 93 ∷ [])
 
 -- a service is a list of two texts
 abbrev pub json_pair : List ℕ × List ℕ → List ℕ

@@ -1,6 +1,7 @@
 -- What stands before a body by the manual's `ResponseHeader: fixed16`, and the reply to what is
 -- refused.
-use Rattle.std.specs.Prelude.{ℕ, ◌+◌, ◌-◌, Bool, true, false, List, [], ◌∷◌, ◌++◌, length, replicate}
+use Rattle.std.specs.Prelude.{ℕ, ◌+◌, ◌-◌, Bool, true, false, List, [], ◌∷◌, ◌++◌, length}
+use Rattle.std.specs.Prelude.{replicate}
 use Rattle.std.specs.Fmt.{decimal}
 use Rattle.lq_records.specs.declared.refusal.Refusal.{Refusal}
 

@@ -1,8 +1,9 @@
 -- What a writer has written, and which lines and cells that is.
-use Rattle.std.specs.Prelude.{◌≡◌, ℕ, ◌<◌, ◌≤◌, Bool, true, false, List, [], ◌∷◌, ◌++◌, length, map, if◌then◌else◌}
+use Rattle.std.specs.Prelude.{◌≡◌, ℕ, ◌<◌, ◌≤◌, Bool, true, false, List, [], ◌∷◌, ◌++◌, length, map}
+use Rattle.std.specs.Prelude.{if◌then◌else◌}
 use Rattle.lq_schema.specs.Value.{Value}
-use Rattle.lq_output.specs.Body.{Marks, body_limit, body_text, line_text, marks_of}
-use Rattle.lq_output.specs.Cells.{cell_text, joined}
+use Rattle.lq_output.specs.Body.{Marks, body_limit, body_text, line_of_values, marks_of}
+use Rattle.lq_output.specs.Cells.{cell_text, joined_texts}
 use Rattle.lq_output.specs.declared.layout.Layout.{Layout}
 
 -- the bytes so far, whether a line was ended, and whether the open line has a cell
@@ -34,16 +35,16 @@ with_cell w value =
     record w { body = w.body ++ (gap ++ cell_text w.layout value); has_cell = true }
 
 -- with the open line ended
-abbrev pub with_line : Writing → Writing
-with_line w = record w {
+abbrev pub with_line_end : Writing → Writing
+with_line_end w = record w {
   body = w.body ++ (marks_of w.layout).line_end;
   has_line = true;
   has_cell = false;
 }
 
 -- the whole body, with the open line as if ended where it has a cell
-abbrev pub closed : Writing → List ℕ
-closed w =
+abbrev pub whole_body : Writing → List ℕ
+whole_body w =
     w.body
     ++ ((if w.has_cell then (marks_of w.layout).line_end else []) ++ (marks_of w.layout).finish)
 
@@ -59,13 +60,13 @@ open_text layout lines [] = []
 open_text layout lines (cell ∷ cells) =
     gap_of_line (marks_of layout) (is_some_of lines)
     ++ ((marks_of layout).line_start
-    ++ joined (marks_of layout).between_cells (map (cell_text layout) (cell ∷ cells)))
+    ++ joined_texts (marks_of layout).between_cells (map (cell_text layout) (cell ∷ cells)))
 
 -- the text of lines and of the cells in the open one
 abbrev pub so_far : Layout → List (List Value) → List Value → List ℕ
 so_far layout lines cells =
     (marks_of layout).start
-    ++ (joined (marks_of layout).between_lines (map (line_text layout) lines)
+    ++ (joined_texts (marks_of layout).between_lines (map (line_of_values layout) lines)
     ++ open_text layout lines cells)
 
 -- these lines were written, and these cells of the open one

@@ -1,7 +1,7 @@
 ghost use Rattle.std.specs.Prelude.{◌≡◌, ◌++◌, OnErr, OnOk, true};
-ghost use Rattle.lq_schema.specs.Value.{Words, shown};
+ghost use Rattle.lq_schema.specs.Value.{Words, meaning_of};
 ghost use Rattle.lq_output.specs.Cells.{cell_text};
-ghost use Rattle.lq_output.specs.CellValue.{value_of};
+ghost use Rattle.lq_output.specs.CellValue.{value_of_cell};
 ghost use Rattle.lq_output.specs.Escapes.{is_as_it_is};
 
 use crate::fields::{is_quoted, push_field, push_field_of};
@@ -26,7 +26,7 @@ pub enum Cell<'a> {
 /// Adds the text of a cell. The only error is out of memory.
 pub fn push_cell(out: &mut Vec<u8>, layout: Layout, cell: Cell<'_>) -> Result<(), Memory>
     ensures { OnOk result
-        (out.new.items ≡ out.old.items ++ cell_text layout (value_of cell.entry)) }
+        (out.new.items ≡ out.old.items ++ cell_text layout (value_of_cell cell.entry)) }
 {
     match cell {
         Cell::Number(number) => push_number(out, number),
@@ -48,7 +48,7 @@ fn push_text(out: &mut Vec<u8>, layout: Layout, text: &str) -> Result<(), Memory
 
 fn push_value(out: &mut Vec<u8>, layout: Layout, value: &Val<'_>) -> Result<(), Memory>
     ensures { OnOk result
-        (out.new.items ≡ out.old.items ++ cell_text layout (shown value.now)) }
+        (out.new.items ≡ out.old.items ++ cell_text layout (meaning_of value.now)) }
 {
     let separators = layout.separators;
     match layout.format {

@@ -1,7 +1,8 @@
 ghost use Rattle.std.specs.Prelude.{◌≡◌, [], ◌∷◌, ◌++◌, OnOk};
 ghost use Rattle.std.specs.List.{flat_map, list_any};
-ghost use Rattle.lq_schema.specs.Value.{shown};
-ghost use Rattle.lq_output.specs.Cells.{doubled, field, field_text, is_special, plain_text};
+ghost use Rattle.lq_schema.specs.Value.{meaning_of};
+ghost use Rattle.lq_output.specs.Cells.{doubled_quote, csv_field, field_text, is_special};
+ghost use Rattle.lq_output.specs.Cells.{plain_text};
 
 use crate::number::{push_micro, push_number};
 use crate::plain::push_plain;
@@ -11,7 +12,7 @@ use lq_schema::Val;
 /// Adds the text of a value as a field of RFC 4180. The items of a list have `,` between them, and
 /// the parts of a pair `|`. The only error is out of memory.
 pub fn push_field_of(out: &mut Vec<u8>, value: &Val<'_>) -> Result<(), Memory>
-    ensures { OnOk result (out.new.items ≡ out.old.items ++ field_text (shown value.now)) }
+    ensures { OnOk result (out.new.items ≡ out.old.items ++ field_text (meaning_of value.now)) }
 {
     match value {
         Val::Int(number) => push_number(out, *number),
@@ -26,7 +27,7 @@ pub fn push_field_of(out: &mut Vec<u8>, value: &Val<'_>) -> Result<(), Memory>
 /// whole is quoted for.
 fn push_list(out: &mut Vec<u8>, value: &Val<'_>) -> Result<(), Memory>
     ensures { OnOk result
-        (out.new.items ≡ out.old.items ++ field (plain_text 44 124 (shown value.now))) }
+        (out.new.items ≡ out.old.items ++ csv_field (plain_text 44 124 (meaning_of value.now))) }
 {
     let mut text = Vec::new(*out.allocator());
     push_plain(&mut text, b',', b'|', value)?;
@@ -35,7 +36,7 @@ fn push_list(out: &mut Vec<u8>, value: &Val<'_>) -> Result<(), Memory>
 
 /// Adds a text as a field of RFC 4180. The only error is out of memory.
 pub fn push_field(out: &mut Vec<u8>, text: &[u8]) -> Result<(), Memory>
-    ensures { OnOk result (out.new.items ≡ out.old.items ++ field text.now) }
+    ensures { OnOk result (out.new.items ≡ out.old.items ++ csv_field text.now) }
 {
     if is_quoted(text) {
         push_quoted(out, text)
@@ -54,7 +55,7 @@ pub fn is_quoted(text: &[u8]) -> bool
 
 fn push_quoted(out: &mut Vec<u8>, text: &[u8]) -> Result<(), Memory>
     ensures { OnOk result
-        (out.new.items ≡ out.old.items ++ 34 ∷ (flat_map doubled text.now ++ 34 ∷ [])) }
+        (out.new.items ≡ out.old.items ++ 34 ∷ (flat_map doubled_quote text.now ++ 34 ∷ [])) }
 {
     out.push(b'"')?;
     push_doubled(out, text)?;
@@ -63,7 +64,7 @@ fn push_quoted(out: &mut Vec<u8>, text: &[u8]) -> Result<(), Memory>
 
 /// Adds a text with each of its quotes twice.
 fn push_doubled(out: &mut Vec<u8>, text: &[u8]) -> Result<(), Memory>
-    ensures { OnOk result (out.new.items ≡ out.old.items ++ flat_map doubled text.now) }
+    ensures { OnOk result (out.new.items ≡ out.old.items ++ flat_map doubled_quote text.now) }
 {
     for byte in text {
         if *byte == b'"' {

@@ -2,9 +2,9 @@ ghost use Rattle.std.specs.Prelude.{◌≡◌, [], ◌∷◌, ◌++◌, OnErr, O
 ghost use Rattle.std.specs.Fmt.{decimal};
 ghost use Rattle.std.specs.List.{list_all};
 ghost use Rattle.json.specs.Print.{quoted};
-ghost use Rattle.lq_schema.specs.Value.{shown};
-ghost use Rattle.lq_output.specs.Cells.{joined, json_list, json_pair, json_text};
-ghost use Rattle.lq_output.specs.Escapes.{is_plain};
+ghost use Rattle.lq_schema.specs.Value.{meaning_of};
+ghost use Rattle.lq_output.specs.Cells.{joined_texts, json_list, json_pair, json_text};
+ghost use Rattle.lq_output.specs.Escapes.{is_plain_byte};
 
 use crate::number::{push_micro, push_number};
 use crate::plain::push_numbers;
@@ -15,7 +15,7 @@ use std::alloc::AllocError;
 
 /// Adds the text of a value in JSON. The only error is out of memory.
 pub fn push_json(out: &mut Vec<u8>, value: &Val<'_>) -> Result<(), Memory>
-    ensures { OnOk result (out.new.items ≡ out.old.items ++ json_text (shown value.now)) }
+    ensures { OnOk result (out.new.items ≡ out.old.items ++ json_text (meaning_of value.now)) }
 {
     match value {
         Val::Int(number) => push_number(out, *number),
@@ -44,19 +44,19 @@ pub fn push_string(out: &mut Vec<u8>, text: &str) -> Result<(), Memory>
 /// bytes at once.
 #[inline(never)]
 pub fn has_no_escape(text: &str) -> bool
-    ensures { result ≡ list_all is_plain text.now }
+    ensures { result ≡ list_all is_plain_byte text.now }
 {
     let mut plain = true;
     for byte in text.as_bytes() {
-        plain &= is_plain(*byte);
+        plain &= is_plain_byte(*byte);
     }
     plain
 }
 
 /// Whether a byte stands in a JSON string as it is.
 #[inline]
-fn is_plain(byte: u8) -> bool
-    ensures { result ≡ is_plain byte }
+fn is_plain_byte(byte: u8) -> bool
+    ensures { result ≡ is_plain_byte byte }
 {
     byte >= b' ' && byte != b'"' && byte != b'\\'
 }
@@ -99,7 +99,7 @@ fn push_strings(out: &mut Vec<u8>, texts: &[Text]) -> Result<(), Memory>
 
 fn push_string_items(out: &mut Vec<u8>, texts: &[Text]) -> Result<(), Memory>
     ensures { OnOk result
-        (out.new.items ≡ out.old.items ++ joined (44 ∷ []) (map quoted texts.now)) }
+        (out.new.items ≡ out.old.items ++ joined_texts (44 ∷ []) (map quoted texts.now)) }
 {
     let Some((first, later)) = texts.split_first() else {
         return Ok(());
@@ -130,7 +130,7 @@ fn push_pairs(out: &mut Vec<u8>, pairs: &[(Text, Text)]) -> Result<(), Memory>
 
 fn push_pair_items(out: &mut Vec<u8>, pairs: &[(Text, Text)]) -> Result<(), Memory>
     ensures { OnOk result
-        (out.new.items ≡ out.old.items ++ joined (44 ∷ []) (map json_pair pairs.now)) }
+        (out.new.items ≡ out.old.items ++ joined_texts (44 ∷ []) (map json_pair pairs.now)) }
 {
     let Some((first, later)) = pairs.split_first() else {
         return Ok(());

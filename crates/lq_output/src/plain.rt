@@ -1,7 +1,7 @@
 ghost use Rattle.std.specs.Prelude.{◌≡◌, [], ◌∷◌, ◌++◌, OnOk, map};
 ghost use Rattle.std.specs.Fmt.{decimal};
-ghost use Rattle.lq_schema.specs.Value.{shown};
-ghost use Rattle.lq_output.specs.Cells.{joined, pair_text, plain_text};
+ghost use Rattle.lq_schema.specs.Value.{meaning_of};
+ghost use Rattle.lq_output.specs.Cells.{joined_texts, pair_text, plain_text};
 
 use crate::number::{push_micro, push_number, push_unsigned};
 use lq_records::{Memory, Text};
@@ -11,7 +11,7 @@ use lq_schema::Val;
 /// them, the parts of a pair the byte `pair`. The only error is out of memory.
 pub fn push_plain(out: &mut Vec<u8>, list: u8, pair: u8, value: &Val<'_>) -> Result<(), Memory>
     ensures { OnOk result
-        (out.new.items ≡ out.old.items ++ plain_text list pair (shown value.now)) }
+        (out.new.items ≡ out.old.items ++ plain_text list pair (meaning_of value.now)) }
 {
     match value {
         Val::Int(number) => push_number(out, *number),
@@ -31,7 +31,7 @@ fn push_text(out: &mut Vec<u8>, text: &Text) -> Result<(), Memory>
 }
 
 fn push_texts(out: &mut Vec<u8>, between: u8, texts: &[Text]) -> Result<(), Memory>
-    ensures { OnOk result (out.new.items ≡ out.old.items ++ joined (between ∷ []) texts.now) }
+    ensures { OnOk result (out.new.items ≡ out.old.items ++ joined_texts (between ∷ []) texts.now) }
 {
     let Some((first, later)) = texts.split_first() else {
         return Ok(());
@@ -47,7 +47,7 @@ fn push_texts(out: &mut Vec<u8>, between: u8, texts: &[Text]) -> Result<(), Memo
 /// Adds numbers with a byte between them. The only error is out of memory.
 pub fn push_numbers(out: &mut Vec<u8>, between: u8, numbers: &[u64]) -> Result<(), Memory>
     ensures { OnOk result
-        (out.new.items ≡ out.old.items ++ joined (between ∷ []) (map decimal numbers.now)) }
+        (out.new.items ≡ out.old.items ++ joined_texts (between ∷ []) (map decimal numbers.now)) }
 {
     let Some((first, later)) = numbers.split_first() else {
         return Ok(());
@@ -75,7 +75,7 @@ fn push_pairs(
     pairs: &[(Text, Text)],
 ) -> Result<(), Memory>
     ensures { OnOk result (out.new.items
-        ≡ out.old.items ++ joined (between ∷ []) (map (pair_text within) pairs.now)) }
+        ≡ out.old.items ++ joined_texts (between ∷ []) (map (pair_text within) pairs.now)) }
 {
     let Some((first, later)) = pairs.split_first() else {
         return Ok(());

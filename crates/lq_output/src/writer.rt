@@ -1,10 +1,13 @@
-ghost use Rattle.std.specs.Prelude.{◌≡◌, ◌+◌, ◌<◌, ◌≤◌, [], ◌++◌, length, take, true, false, IfErr, IfOk, OnOk, OnErr, IsOkUnless};
-ghost use Rattle.lq_schema.specs.Value.{Number, Words, shown};
+ghost use Rattle.std.specs.Prelude.{◌≡◌, ◌+◌, ◌<◌, ◌≤◌, [], ◌++◌, length, take, true, false, IfErr};
+ghost use Rattle.std.specs.Prelude.{IfOk, OnOk, OnErr, IsOkUnless};
+ghost use Rattle.lq_schema.specs.Value.{Number, Words, meaning_of};
 ghost use Rattle.lq_output.specs.Body.{body_limit, marks_of};
-ghost use Rattle.lq_output.specs.CellValue.{value_of};
+ghost use Rattle.lq_output.specs.CellValue.{value_of_cell};
 ghost use Rattle.lq_output.specs.Escapes.{is_as_it_is};
 ghost use Rattle.lq_output.specs.Spots.{ended_length, text_at};
-ghost use Rattle.lq_output.specs.Writing.{AddsCell, EndsLine, IsTextOfLines, IsTooLargeWith, IsWithinLimit, Writes, closed, nothing_written, with_cell, with_line};
+ghost use Rattle.lq_output.specs.Writing.{AddsCell, EndsLine, IsTextOfLines, IsTooLargeWith};
+ghost use Rattle.lq_output.specs.Writing.{IsWithinLimit, Writes, whole_body, nothing_written};
+ghost use Rattle.lq_output.specs.Writing.{with_cell, with_line_end};
 
 use crate::cell::{Cell, is_as_it_is, push_as_it_is, push_cell};
 use crate::error::WriteErr;
@@ -39,7 +42,7 @@ pub struct Writer {
 impl Model for Writer {
     ghost use Rattle.std.specs.Prelude.{◌≤◌, length};
     ghost use Rattle.lq_output.specs.Body.{body_limit};
-    ghost use Rattle.lq_output.specs.Writing.{Writing, closed};
+    ghost use Rattle.lq_output.specs.Writing.{Writing, whole_body};
 
     ghost Value = { Writing };
 
@@ -50,7 +53,7 @@ impl Model for Writer {
       has_cell = w.has_cell;
     } };
 
-    ghost invariant = { λ w. length (closed (record {
+    ghost invariant = { λ w. length (whole_body (record {
       layout = w.layout;
       body = w.body.items;
       has_line = w.has_line;
@@ -81,11 +84,11 @@ impl Writer {
     /// Adds a cell to the open line. `TooLarge` where the body, with the open line ended behind the
     /// cell, would have more than `BODY_LIMIT` bytes; else the only error is `Memory`.
     pub fn cell(&mut self, value: &Val<'_>) -> Result<(), WriteErr>
-        ensures ok { OnOk result (self.new ≡ with_cell self.old (shown value.now)) }
-        ensures lines { OnOk result (AddsCell self.old self.new (shown value.now)) }
+        ensures ok { OnOk result (self.new ≡ with_cell self.old (meaning_of value.now)) }
+        ensures lines { OnOk result (AddsCell self.old self.new (meaning_of value.now)) }
         ensures fits { OnOk result (IsWithinLimit self.new) }
         ensures large { result ≡ Err WriteErr.TooLarge
-            → IsTooLargeWith self.old (shown value.now) }
+            → IsTooLargeWith self.old (meaning_of value.now) }
         ensures err { OnErr result (self.new ≡ self.old) }
     {
         self.add(Cell::Value(value))
@@ -120,11 +123,11 @@ impl Writer {
     /// What `append` does, said of the lines and cells that are written.
     #[inline(always)]
     fn add(&mut self, cell: Cell<'_>) -> Result<(), WriteErr>
-        ensures ok { OnOk result (self.new ≡ with_cell self.old (value_of cell.entry)) }
-        ensures lines { OnOk result (AddsCell self.old self.new (value_of cell.entry)) }
+        ensures ok { OnOk result (self.new ≡ with_cell self.old (value_of_cell cell.entry)) }
+        ensures lines { OnOk result (AddsCell self.old self.new (value_of_cell cell.entry)) }
         ensures fits { OnOk result (IsWithinLimit self.new) }
         ensures large { result ≡ Err WriteErr.TooLarge
-            → IsTooLargeWith self.old (value_of cell.entry) }
+            → IsTooLargeWith self.old (value_of_cell cell.entry) }
         ensures err { OnErr result (self.new ≡ self.old) }
     {
         self.append(cell)
@@ -134,10 +137,10 @@ impl Writer {
     /// the body; any other cell is written apart first.
     #[inline(always)]
     fn append(&mut self, cell: Cell<'_>) -> Result<(), WriteErr>
-        ensures ok { OnOk result (self.new ≡ with_cell self.old (value_of cell.entry)) }
-        ensures fits { OnOk result (length (closed self.new) ≤ body_limit) }
+        ensures ok { OnOk result (self.new ≡ with_cell self.old (value_of_cell cell.entry)) }
+        ensures fits { OnOk result (length (whole_body self.new) ≤ body_limit) }
         ensures large { result ≡ Err WriteErr.TooLarge
-            → body_limit < length (closed (with_cell self.old (value_of cell.entry))) }
+            → body_limit < length (whole_body (with_cell self.old (value_of_cell cell.entry))) }
         ensures err { OnErr result (self.new ≡ self.old) }
     {
         match cell {
@@ -177,7 +180,7 @@ impl Writer {
     #[inline(always)]
     pub fn end_line(&mut self) -> Result<(), WriteErr>
         requires { self.old.has_cell ≡ true }
-        ensures ok { OnOk result (self.new ≡ with_line self.old) }
+        ensures ok { OnOk result (self.new ≡ with_line_end self.old) }
         ensures lines { OnOk result (EndsLine self.old self.new) }
         ensures fits { OnOk result (IsWithinLimit self.new) }
         ensures memory { IsOkUnless result WriteErr.Memory }
@@ -193,7 +196,7 @@ impl Writer {
     /// `Memory`: the bytes that end the body were counted from the beginning.
     pub fn finish(self) -> Result<Items<u8>, WriteErr>
         requires { self.has_cell ≡ false }
-        ensures ok { IfOk result (λ body. body ≡ closed self) }
+        ensures ok { IfOk result (λ body. body ≡ whole_body self) }
         ensures lines { IfOk result (IsTextOfLines self) }
         ensures fits { IfOk result (λ body. length body ≤ body_limit) }
         ensures memory { IsOkUnless result WriteErr.Memory }
@@ -258,11 +261,11 @@ fn push_apart(
 ) -> Result<(), WriteErr>
     requires { length body.old.items ≤ body_limit }
     ensures ok { OnOk result
-        (body.new.items ≡ body.old.items ++ text_at spot (value_of cell.entry)) }
+        (body.new.items ≡ body.old.items ++ text_at spot (value_of_cell cell.entry)) }
     ensures fits { OnOk result
-        (ended_length spot body.old.items (value_of cell.entry) ≤ body_limit) }
+        (ended_length spot body.old.items (value_of_cell cell.entry) ≤ body_limit) }
     ensures large { result ≡ Err WriteErr.TooLarge
-        → body_limit < ended_length spot body.old.items (value_of cell.entry) }
+        → body_limit < ended_length spot body.old.items (value_of_cell cell.entry) }
     ensures err { OnErr result (body.new.items ≡ body.old.items) }
 {
     apart.clear();

@@ -37,8 +37,8 @@ abbrev pub held_in : List (List ℕ × List ℕ) → List ℕ → Option (List �
 held_in pairs path = option_map (λ pair. pair.1) (find (λ pair. bytes_eq pair.0 path) pairs)
 
 -- pairs of a path and a file's bytes, as a contract compares them
-abbrev pub pairs_of : List (String Global × Vec ℕ) → List (List ℕ × List ℕ)
-pairs_of pairs = map (λ pair. (string_bytes pair.0, pair.1.items)) pairs
+abbrev pub file_pairs : List (String Global × Vec ℕ) → List (List ℕ × List ℕ)
+file_pairs pairs = map (λ pair. (string_bytes pair.0, pair.1.items)) pairs
 
 -- some of the first bytes are gone
 abbrev pub LosesFront : List ℕ → List ℕ → Type 0

@@ -1,5 +1,6 @@
 -- What loading a file says of the file and of the count of faults.
-use Rattle.std.specs.Prelude.{◌≡◌, ℕ, ◌<◌, ◌≤◌, List, length, Result, Option, None, Some, Ok, Err, IfErr, IfSome, codes, IsSome, IsSomeAnd}
+use Rattle.std.specs.Prelude.{◌≡◌, ℕ, ◌<◌, ◌≤◌, List, length, Result, Option, None, Some, Ok, Err}
+use Rattle.std.specs.Prelude.{IfErr, IfSome, codes, IsSome, IsSomeAnd}
 use Rattle.std.specs.Global.{Vec}
 use Rattle.lq_outside.specs.declared.files.LoadErr.{LoadErr}
 use Rattle.lq_outside.specs.declared.files.LoadErr.TheVariants.{Missing, Failed, TooLarge, Memory}

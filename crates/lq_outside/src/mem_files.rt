@@ -1,6 +1,7 @@
-ghost use Rattle.std.specs.Prelude.{◌≡◌, ◌↔◌, ◌<◌, ◌≤◌, Some, Err, length, option_copied, IfOk, IfErr, IsNone, IsSome, IsSomeAnd, Contains};
+ghost use Rattle.std.specs.Prelude.{◌≡◌, ◌↔◌, ◌<◌, ◌≤◌, Some, Err, length, option_copied, IfOk};
+ghost use Rattle.std.specs.Prelude.{IfErr, IsNone, IsSome, IsSomeAnd, Contains};
 ghost use Rattle.lq_outside.specs.Faults.{next_count};
-ghost use Rattle.lq_outside.specs.Forms.{held_in, pairs_of};
+ghost use Rattle.lq_outside.specs.Forms.{held_in, file_pairs};
 ghost use Rattle.lq_outside.specs.Loading.{HasLoadCause, IsFault, Loads, load_faults_after};
 
 use crate::failed::Memory;
@@ -18,12 +19,12 @@ pub struct MemFiles {
 }
 
 impl Model for MemFiles {
-    ghost use Rattle.lq_outside.specs.Forms.{FileSet, pairs_of};
+    ghost use Rattle.lq_outside.specs.Forms.{FileSet, file_pairs};
 
     ghost Value = { FileSet };
 
     ghost view = { λ f. record {
-      pairs = pairs_of f.pairs.items;
+      pairs = file_pairs f.pairs.items;
       fail_at = f.plan.fail_at;
       calls = f.plan.calls;
       faults = f.plan.faults;
@@ -32,7 +33,7 @@ impl Model for MemFiles {
 
 // The bytes beside the first pair with this path.
 fn find_file<'a>(pairs: &'a [(String, Vec<u8>)], path: &str) -> Option<&'a [u8]>
-    ensures { option_copied result ≡ held_in (pairs_of pairs.now) path.now }
+    ensures { option_copied result ≡ held_in (file_pairs pairs.now) path.now }
 {
     for pair in pairs {
         if pair.0.as_str() == path {
@@ -51,7 +52,7 @@ impl MemFiles {
         fail_at: Vec<u64>,
     ) -> Result<Self, Memory>
         ensures { IfOk result (λ f. f ≡ record {
-          pairs = pairs_of pairs.items;
+          pairs = file_pairs pairs.items;
           fail_at = fail_at.items;
           calls = 0;
           faults = 0;

@@ -6,7 +6,7 @@ use Rattle.lq_records.specs.declared.base.Rules.{Rules}
 use Rattle.lq_objects.specs.Objects.{base_of}
 use Rattle.lq_log.specs.Log.{Log, log_of}
 use Rattle.lq_log.specs.declared.whole.LogErr.{LogErr}
-use Rattle.lq_program.specs.Faults.{objects_limit, fault_of_base, fault_of_log, log_fault, objects_fault}
+use Rattle.lq_program.specs.Faults.{file_limit, fault_of_base, fault_of_log, log_fault, objects_fault}
 use Rattle.lq_program.specs.Run.{SaysBase, SaysLog, entries_read}
 use Rattle.lq_program.specs.declared.fault.LogFault.{LogFault}
 use Rattle.lq_program.specs.declared.fault.LogFault.TheVariants as log
@@ -14,22 +14,22 @@ use Rattle.lq_program.specs.declared.fault.ObjectsFault.TheVariants.{At, TooLarg
 use Rattle.lq_objects.specs.declared.fault.ObjectsWhat.{ObjectsWhat}
 
 -- a file past the limit is too large, whatever it says
-large_fault : (rules : Rules) (bytes : List ℕ) → objects_limit < length bytes → objects_fault bytes rules ≡ Some TooLarge
+large_fault : (rules : Rules) (bytes : List ℕ) → file_limit < length bytes → objects_fault bytes rules ≡ Some TooLarge
 unfolding objects_fault
-large_fault rules bytes long = let is : nat_lt objects_limit (length bytes) ≡ true = grind arith in rw is refl
+large_fault rules bytes long = let is : nat_lt file_limit (length bytes) ≡ true = grind arith in rw is refl
 
 -- a file within the limit has the fault that its lines say
-small_fault : (rules : Rules) (bytes : List ℕ) → length bytes ≤ objects_limit → objects_fault bytes rules ≡ fault_of_base (base_of bytes rules)
+small_fault : (rules : Rules) (bytes : List ℕ) → length bytes ≤ file_limit → objects_fault bytes rules ≡ fault_of_base (base_of bytes rules)
 unfolding objects_fault
-small_fault rules bytes short = let is : nat_lt objects_limit (length bytes) ≡ false = grind arith in rw is refl
+small_fault rules bytes short = let is : nat_lt file_limit (length bytes) ≡ false = grind arith in rw is refl
 
-pub too_large : (rules : Rules) (file : Option (Option (List ℕ))) → IfSome file (λ there. IsSomeAnd there (λ bytes. objects_limit < length bytes))
+pub too_large : (rules : Rules) (file : Option (Option (List ℕ))) → IfSome file (λ there. IsSomeAnd there (λ bytes. file_limit < length bytes))
     → IfSome file (λ there. IsSomeAnd there (λ bytes. objects_fault bytes rules ≡ Some TooLarge))
 too_large rules None is = tt
 too_large rules (Some None) is = is
 too_large rules (Some (Some bytes)) is = large_fault rules bytes is
 
-pub said_base : (rules : Rules) (file : Option (Option (List ℕ))) (bytes : List ℕ) (base : Base) → length bytes ≤ objects_limit → IfSome file (λ there. there ≡ Some bytes)
+pub said_base : (rules : Rules) (file : Option (Option (List ℕ))) (bytes : List ℕ) (base : Base) → length bytes ≤ file_limit → IfSome file (λ there. there ≡ Some bytes)
     → base_of bytes rules ≡ Ok base → SaysBase rules file base
 said_base rules None bytes base short is read = tt
 said_base rules (Some None) bytes base short is read = absurd (cc)
@@ -38,7 +38,7 @@ said_base rules (Some (Some held)) bytes base short is read =
     subst (λ b. (objects_fault b rules ≡ None) × (base_of b rules ≡ Ok base)) same
     (small_fault rules bytes short ∙ ap fault_of_base read, read)
 
-pub loaded_fault : (rules : Rules) (file : Option (Option (List ℕ))) (bytes : List ℕ) (line : ℕ) (what : ObjectsWhat) → length bytes ≤ objects_limit → IfSome file (λ there. there ≡ Some bytes)
+pub loaded_fault : (rules : Rules) (file : Option (Option (List ℕ))) (bytes : List ℕ) (line : ℕ) (what : ObjectsWhat) → length bytes ≤ file_limit → IfSome file (λ there. there ≡ Some bytes)
     → base_of bytes rules ≡ Err (record { line = line; what = what })
     → IfSome file (λ there. IsSomeAnd there (λ b. objects_fault b rules ≡ Some (At line what)))
 loaded_fault rules None bytes line what short is read = tt

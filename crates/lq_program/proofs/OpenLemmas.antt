@@ -3,8 +3,8 @@ use Rattle.std.proofs.Common.{Bor, inl, inr, ◌⊎◌, ◌≡◌, ◌∙◌, �
 use Rattle.std.specs.Option.{is_some}
 use Rattle.std.specs.Prelude.{IsSomeAnd}
 use Rattle.lq_program.specs.CommandLine.{Wanted}
-use Rattle.lq_program.specs.Faults.{end_text, log_text, missing_text, objects_text, status_of, unreadable_text}
-use Rattle.lq_program.specs.Run.{IsAccepted, IsReport, LoadsNoLog, MustRefuse, MustRefuseLog, OpensNone, TellsFile, TellsLog, TellsObjects}
+use Rattle.lq_program.specs.Faults.{end_text, log_fault_text, missing_text, objects_fault_text, status_of, unreadable_text}
+use Rattle.lq_program.specs.Run.{IsAcceptedFile, IsReport, LoadsNoLog, MustRefuse, MustRefuseLog, OpensNone, TellsFile, TellsLog, TellsObjects}
 use Rattle.lq_program.specs.declared.fault.Fault.{Fault}
 use Rattle.lq_program.specs.declared.fault.Fault.TheVariants as end
 use Rattle.lq_program.specs.declared.fault.LogFault.{LogFault}
@@ -28,7 +28,7 @@ module _ (wanted : Wanted) (files : Files) (before now : ℕ) where
   may_come status None may = tt
   may_come status (Some there) may = λ refused. may
 
-  not_refused : (status : ℕ) (file : Told) → IsAccepted wanted.rules file → MustRefuse wanted.rules status file
+  not_refused : (status : ℕ) (file : Told) → IsAcceptedFile wanted.rules file → MustRefuse wanted.rules status file
   not_refused status None accepted = tt
   not_refused status (Some None) accepted = absurd accepted
   not_refused status (Some (Some bytes)) accepted = λ refused. absurd (true≢false (sym refused ∙ ap is_some accepted))
@@ -73,7 +73,7 @@ module _ (wanted : Wanted) (files : Files) (before now : ℕ) where
   -- ---- the text that goes with it
 
   tells_log : (log : Option (List ℕ)) (found : LogFault) → IsSomeAnd log (λ path. LoadsNoLog path (files path) before now (end.Log found))
-      → IsSomeAnd log (λ path. TellsLog (files path) (log_text found))
+      → IsSomeAnd log (λ path. TellsLog (files path) (log_fault_text found))
   tells_log None found none = none
   tells_log (Some path) found none = record { fault = found; told = refl; is = none }
 
@@ -87,11 +87,11 @@ module _ (wanted : Wanted) (files : Files) (before now : ℕ) where
   unreadable_log None unreadable none = none
   unreadable_log (Some path) unreadable none = inr (ap unreadable_text none.0, none.1)
 
-  tells_objects : (found : ObjectsFault) → OpensNone wanted files before now (end.Objects found) → TellsObjects wanted.rules (files wanted.path) (objects_text found)
+  tells_objects : (found : ObjectsFault) → OpensNone wanted files before now (end.Objects found) → TellsObjects wanted.rules (files wanted.path) (objects_fault_text found)
   tells_objects found (inl none) = record { fault = found; told = refl; is = none }
   tells_objects found (inr (accepted, none)) = none_of_log wanted.log none
 
-  tells_log_fault : (found : LogFault) → OpensNone wanted files before now (end.Log found) → IsSomeAnd wanted.log (λ path. TellsLog (files path) (log_text found))
+  tells_log_fault : (found : LogFault) → OpensNone wanted files before now (end.Log found) → IsSomeAnd wanted.log (λ path. TellsLog (files path) (log_fault_text found))
   tells_log_fault found (inl none) = absurd none
   tells_log_fault found (inr (accepted, none)) = tells_log wanted.log found none
 

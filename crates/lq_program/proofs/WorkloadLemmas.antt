@@ -9,7 +9,7 @@ use Rattle.lq_objects.specs.declared.fault.Fault.{Fault}
 use Rattle.lq_objects.specs.Objects.{base_of}
 use Rattle.lq_log.specs.Log.{Log, log_of}
 use Rattle.lq_log.specs.declared.whole.LogErr.{LogErr}
-use Rattle.lq_live.specs.Opening.{opened}
+use Rattle.lq_live.specs.Opening.{opening_state}
 use Rattle.lq_live.specs.State.{State}
 use Rattle.lq_workload.specs.Accepted.{IsAccepted}
 use Rattle.lq_workload.specs.Objects.{objects_text}
@@ -48,6 +48,6 @@ IfOk-weaker P Q (Ok x) step is = step x is
 IfOk-weaker P Q (Err error) step is = tt
 
 pub state_is : (number : ℕ) (base : Base) (read : Log) → base_of (objects_text number) default_rules ≡ Ok base → log_of (log_text number) ≡ Ok read
-    → load_state number ≡ Some (opened base read.entries)
+    → load_state number ≡ Some (opening_state base read.entries)
 unfolding load_state
 state_is number base read first second = rw (first, second) refl

@@ -1,5 +1,7 @@
 -- What the words of a command line ask.
-use Rattle.std.specs.Prelude.{ℕ, ◌||◌, ◌&&◌, ◌==◌, nat_le, nat_lt, Bool, true, false, not, Option, Some, None, is_none, List, [], ◌∷◌, bytes_eq, codes, length, slice_index, if◌then◌else◌}
+use Rattle.std.specs.Prelude.{ℕ, ◌||◌, ◌&&◌, ◌==◌, nat_le, nat_lt, Bool, true, false, not, Option}
+use Rattle.std.specs.Prelude.{Some, None, is_none, List, [], ◌∷◌, bytes_eq, codes, length}
+use Rattle.std.specs.Prelude.{slice_index, if◌then◌else◌}
 use Rattle.std.specs.Char.{is_ascii_digit}
 use Rattle.std.specs.List.{after_first, before_first, list_all}
 use Rattle.std.specs.Option.{is_some, option_and_then, option_map, option_map_or}
@@ -25,22 +27,22 @@ choice_named name =
 -- ---- a line
 
 -- the values that stand by themselves, and those of each option, in their order
-pub record Line : Type 0 where
+pub record GivenWords : Type 0 where
   pub operands : List (List ℕ)
   pub logs : List (List ℕ)
   pub service_auths : List (List ℕ)
   pub group_auths : List (List ℕ)
 
 -- words that are values alone, as those after `--` are
-abbrev pub only_operands : List (List ℕ) → Line
+abbrev pub only_operands : List (List ℕ) → GivenWords
 only_operands words =
     record { operands = words; logs = []; service_auths = []; group_auths = [] }
 
 -- a line with one more value before the others
-abbrev pub with_operand : List ℕ → Line → Line
+abbrev pub with_operand : List ℕ → GivenWords → GivenWords
 with_operand word line = record line { operands = word ∷ line.operands }
 
-abbrev pub with_value : Choice → List ℕ → Line → Line
+abbrev pub with_value : Choice → List ℕ → GivenWords → GivenWords
 with_value choice.Log value line = record line { logs = value ∷ line.logs }
 with_value choice.ServiceAuth value line =
     record line { service_auths = value ∷ line.service_auths }
@@ -51,27 +53,27 @@ abbrev pub is_equals : ℕ → Bool
 is_equals byte = byte == 61
 
 -- an option and its value in one word, as `--log=FILE`
-abbrev pub with_joined : List ℕ → Line → Option Line
-with_joined word line =
+abbrev pub with_option_and_value : List ℕ → GivenWords → Option GivenWords
+with_option_and_value word line =
     option_map (λ about. with_value about (after_first is_equals word) line)
     (choice_named (before_first is_equals word))
 
 -- The line that words make. An option stands before its value, or in one word with it; `--` ends
 -- the options. None where a value is missing, or a word is no value and no option.
-abbrev pub line_of : List (List ℕ) → Option Line
+abbrev pub line_of : List (List ℕ) → Option GivenWords
 line_of [] = Some (only_operands [])
 line_of (word ∷ []) =
     if bytes_eq word (codes "--") then Some (only_operands [])
     else if is_value word then Some (with_operand word (only_operands []))
     else if is_some (choice_named word) then None
-    else with_joined word (only_operands [])
+    else with_option_and_value word (only_operands [])
 line_of (word ∷ next ∷ words) =
     if bytes_eq word (codes "--") then Some (only_operands (next ∷ words))
     else if is_value word then option_map (with_operand word) (line_of (next ∷ words))
     else option_map_or
     (λ about. if is_value next then option_map (with_value about next) (line_of words) else None)
     (choice_named word)
-    (option_and_then (with_joined word) (line_of (next ∷ words)))
+    (option_and_then (with_option_and_value word) (line_of (next ∷ words)))
 
 -- ---- one value and each option at most once
 
@@ -101,7 +103,7 @@ all_of (Some operand) (Some log) (Some service_auth) (Some group_auth) = Some (r
 })
 all_of _ _ _ _ = None
 
-abbrev pub given_of : Line → Option Given
+abbrev pub given_of : GivenWords → Option Given
 given_of line =
     all_of (one line.operands) (at_most_one line.logs) (at_most_one line.service_auths)
     (at_most_one line.group_auths)
@@ -179,10 +181,10 @@ wanted_in None = None
 wanted_in (Some (Ask wanted)) = Some wanted
 wanted_in (Some (Load number)) = None
 
-abbrev pub number_in : Option Work → Option ℕ
-number_in None = None
-number_in (Some (Ask wanted)) = None
-number_in (Some (Load number)) = Some number
+abbrev pub number_of_work : Option Work → Option ℕ
+number_of_work None = None
+number_of_work (Some (Ask wanted)) = None
+number_of_work (Some (Load number)) = Some number
 
 -- what `ask` asks, where the command is `ask`
 abbrev pub asked_connection : List (List ℕ) → Option Wanted
@@ -190,4 +192,4 @@ asked_connection words = wanted_in (asked_words words)
 
 -- the number of `load`, where the command is `load`
 abbrev pub asked_load : List (List ℕ) → Option ℕ
-asked_load words = number_in (asked_words words)
+asked_load words = number_of_work (asked_words words)

@@ -1,5 +1,6 @@
 -- The ends of the program, their statuses and their texts.
-use Rattle.std.specs.Prelude.{ℕ, ◌≤◌, nat_lt, Option, Some, None, Result, Ok, Err, List, [], ◌∷◌, ◌++◌, length, codes, if◌then◌else◌}
+use Rattle.std.specs.Prelude.{ℕ, ◌≤◌, nat_lt, Option, Some, None, Result, Ok, Err, List, [], ◌∷◌}
+use Rattle.std.specs.Prelude.{◌++◌, length, codes, if◌then◌else◌}
 use Rattle.std.specs.Fmt.{decimal}
 use Rattle.lq_records.specs.declared.base.Base.{Base}
 use Rattle.lq_records.specs.declared.base.Rules.{Rules}
@@ -16,20 +17,22 @@ use Rattle.lq_program.specs.declared.fault.ObjectsFault.TheVariants.{At, TooLarg
 use Rattle.lq_program.specs.declared.fault.Fault.{Fault as End}
 use Rattle.lq_program.specs.declared.fault.Fault.TheVariants as end
 
+-- ---- how long a file may be
+
+-- the most bytes of an object file, and of a log
+abbrev pub file_limit : ℕ
+file_limit = 67108864
+
 -- ---- what is wrong with an object file
 
 abbrev pub fault_of_base : Result Base Fault → Option ObjectsFault
 fault_of_base (Ok base) = None
 fault_of_base (Err fault) = Some (At fault.line fault.what)
 
--- the most bytes of an object file
-abbrev pub objects_limit : ℕ
-objects_limit = 67108864
-
 -- the fault of an object file, where it has one
 unfoldable pub objects_fault : List ℕ → Rules → Option ObjectsFault
 objects_fault bytes rules =
-    if nat_lt objects_limit (length bytes) then Some TooLarge
+    if nat_lt file_limit (length bytes) then Some TooLarge
     else fault_of_base (base_of bytes rules)
 
 -- ---- what is wrong with a log
@@ -43,7 +46,7 @@ fault_of_log (Err (err.Memory error)) = None
 -- the fault of a log, where it has one: it has more than 67,108,864 bytes, or a line passes a limit
 unfoldable pub log_fault : List ℕ → Option LogFault
 log_fault bytes =
-    if nat_lt 67108864 (length bytes) then Some log.TooLarge else fault_of_log (log_of bytes)
+    if nat_lt file_limit (length bytes) then Some log.TooLarge else fault_of_log (log_of bytes)
 
 -- ---- statuses
 
@@ -73,14 +76,16 @@ usage_text = line (codes "usage: lqd ask|replay|serve|load")
 abbrev pub at_line : ℕ → List ℕ → List ℕ
 at_line number what = line (decimal number ++ (codes ": " ++ what))
 
-abbrev pub objects_text : ObjectsFault → List ℕ
-objects_text TooLarge = line (codes "objects: too large")
-objects_text (At number what) = codes "objects: line " ++ at_line number (what_text what)
+abbrev pub objects_fault_text : ObjectsFault → List ℕ
+objects_fault_text TooLarge = line (codes "objects: too large")
+objects_fault_text (At number what) = codes "objects: line " ++ at_line number (what_text what)
 
-abbrev pub log_text : LogFault → List ℕ
-log_text (log.TooManyLines number) = codes "log: line " ++ at_line number (codes "too many lines")
-log_text (log.LineTooLong number) = codes "log: line " ++ at_line number (codes "line too long")
-log_text log.TooLarge = line (codes "log: too large")
+abbrev pub log_fault_text : LogFault → List ℕ
+log_fault_text (log.TooManyLines number) =
+    codes "log: line " ++ at_line number (codes "too many lines")
+log_fault_text (log.LineTooLong number) =
+    codes "log: line " ++ at_line number (codes "line too long")
+log_fault_text log.TooLarge = line (codes "log: too large")
 
 abbrev pub missing_text : List ℕ → List ℕ
 missing_text path = line (codes "file: " ++ (path ++ codes ": missing"))
@@ -99,8 +104,8 @@ memory_text = line (codes "out of memory")
 
 abbrev pub end_text : End → List ℕ
 end_text end.Usage = usage_text
-end_text (end.Objects fault) = objects_text fault
-end_text (end.Log fault) = log_text fault
+end_text (end.Objects fault) = objects_fault_text fault
+end_text (end.Log fault) = log_fault_text fault
 end_text (end.FileMissing path) = missing_text path.now
 end_text (end.FileUnreadable path) = unreadable_text path.now
 end_text end.Read = read_text

@@ -1,5 +1,6 @@
 -- What a generated workload is answered, in one line.
-use Rattle.std.specs.Prelude.{ℕ, ◌%◌, true, false, Option, Some, None, Result, Ok, List, [], ◌∷◌, codes, length, sum}
+use Rattle.std.specs.Prelude.{ℕ, ◌%◌, true, false, Option, Some, None, Result, Ok, List, [], ◌∷◌}
+use Rattle.std.specs.Prelude.{codes, length, sum}
 use Rattle.std.specs.Fmt.{decimal}
 use Rattle.std.specs.List.{concat}
 use Rattle.std.specs.Option.{option_map}
@@ -9,7 +10,7 @@ use Rattle.lq_objects.specs.Objects.{base_of}
 use Rattle.lq_objects.specs.declared.fault.Fault.{Fault}
 use Rattle.lq_log.specs.Log.{Log, log_of}
 use Rattle.lq_log.specs.declared.whole.LogErr.{LogErr}
-use Rattle.lq_live.specs.Opening.{opened}
+use Rattle.lq_live.specs.Opening.{opening_state}
 use Rattle.lq_live.specs.State.{State}
 use Rattle.lq_workload.specs.Objects.{objects_text as workload_objects}
 use Rattle.lq_workload.specs.Workload.{log_text as workload_log, stream_text as workload_stream}
@@ -21,7 +22,7 @@ default_rules = record { service_strict = false; group_strict = true }
 
 -- the state that objects and a log open with
 abbrev pub opened_by : Result Base Fault → Result Log LogErr → Option State
-opened_by (Ok base) (Ok log) = Some (opened base log.entries)
+opened_by (Ok base) (Ok log) = Some (opening_state base log.entries)
 opened_by _ _ = None
 
 -- the state that the workload of a number opens with, None where its object file or its log is

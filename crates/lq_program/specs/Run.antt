@@ -1,5 +1,6 @@
 -- What a run says of the words, the files, the input and the two outputs.
-use Rattle.std.specs.Prelude.{◌≡◌, ℕ, ◌⊎◌, Option, Some, None, IsNone, IsSome, IfSome, IsSomeAnd, Result, Ok, Err, List, []}
+use Rattle.std.specs.Prelude.{◌≡◌, ℕ, ◌⊎◌, Option, Some, None, IsNone, IsSome, IfSome, IsSomeAnd}
+use Rattle.std.specs.Prelude.{Result, Ok, Err, List, []}
 use Rattle.std.specs.Io.KnownBytes.{Appends}
 use Rattle.lq_outside.specs.Faults.{Rose}
 use Rattle.lq_records.specs.declared.base.Base.{Base}
@@ -9,10 +10,12 @@ use Rattle.lq_objects.specs.Objects.{base_of}
 use Rattle.lq_events.specs.declared.log_entry.LogEntry.{LogEntry}
 use Rattle.lq_log.specs.Log.{Log, log_of}
 use Rattle.lq_log.specs.declared.whole.LogErr.{LogErr}
-use Rattle.lq_live.specs.Opening.{opened}
+use Rattle.lq_live.specs.Opening.{opening_state}
 use Rattle.lq_live.specs.State.{State}
 use Rattle.lq_program.specs.CommandLine.{Wanted}
-use Rattle.lq_program.specs.Faults.{log_fault, log_text, objects_fault, objects_text, usage_text, missing_text, unreadable_text, read_text, write_text, memory_text}
+use Rattle.lq_program.specs.Faults.{log_fault, log_fault_text, objects_fault, objects_fault_text}
+use Rattle.lq_program.specs.Faults.{usage_text, missing_text, unreadable_text, read_text}
+use Rattle.lq_program.specs.Faults.{write_text, memory_text}
 use Rattle.lq_program.specs.declared.fault.LogFault.{LogFault}
 use Rattle.lq_program.specs.declared.fault.ObjectsFault.{ObjectsFault}
 use Rattle.lq_program.specs.declared.fault.Fault.{Fault}
@@ -88,7 +91,7 @@ pub record Opens (wanted : Wanted) (files : List ℕ → Option (Option (List �
   pub sound : IsSound base
   pub objects : SaysBase wanted.rules (files wanted.path) base
   pub log : OpensLog wanted.log files entries
-  pub state : s ≡ opened base entries
+  pub state : s ≡ opening_state base entries
 
 -- there is such a state, and a fact holds of it
 abbrev pub OnOpening : Option Wanted → (List ℕ → Option (Option (List ℕ))) → (State → Type 0)
@@ -101,14 +104,14 @@ OnOpening asked files P = IfSome asked (λ wanted. (s : State) × Opens wanted f
 pub record TellsObjects (rules : Rules) (file : Option (Option (List ℕ))) (text : List ℕ)
     : Type 0 where
   pub fault : ObjectsFault
-  pub told : text ≡ objects_text fault
+  pub told : text ≡ objects_fault_text fault
   pub is : IfSome file
       (λ there. IsSomeAnd there (λ bytes. objects_fault bytes rules ≡ Some fault))
 
 -- what is wrong with the log
 pub record TellsLog (file : Option (Option (List ℕ))) (text : List ℕ) : Type 0 where
   pub fault : LogFault
-  pub told : text ≡ log_text fault
+  pub told : text ≡ log_fault_text fault
   pub is : IfSome file (λ there. IsSomeAnd there (λ bytes. log_fault bytes ≡ Some fault))
 
 -- where the file is told, it is called missing exactly where nothing is there
@@ -161,8 +164,8 @@ LoadsNoLog path file before now (end.Log fault) =
 LoadsNoLog path file before now fault = Misses path file before now fault
 
 -- where the file is told, it isn't refused
-abbrev pub IsAccepted : Rules → Option (Option (List ℕ)) → Type 0
-IsAccepted rules file =
+abbrev pub IsAcceptedFile : Rules → Option (Option (List ℕ)) → Type 0
+IsAcceptedFile rules file =
     IfSome file (λ there. IsSomeAnd there (λ bytes. objects_fault bytes rules ≡ None))
 
 -- Why what is asked opens no state: the object file gives no base, or it is accepted and the log
@@ -170,5 +173,5 @@ IsAccepted rules file =
 abbrev pub OpensNone : Wanted → (List ℕ → Option (Option (List ℕ))) → ℕ → ℕ → Fault → Type 0
 OpensNone wanted files before now fault =
     LoadsNoBase wanted (files wanted.path) before now fault
-    ⊎ (IsAccepted wanted.rules (files wanted.path)
+    ⊎ (IsAcceptedFile wanted.rules (files wanted.path)
     × IsSomeAnd wanted.log (λ path. LoadsNoLog path (files path) before now fault))

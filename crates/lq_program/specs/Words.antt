@@ -9,7 +9,8 @@ use Rattle.lq_program.specs.declared.command_line.Said.{Said}
 use Rattle.lq_program.specs.declared.command_line.Subcommand.{Subcommand}
 use Rattle.lq_program.specs.declared.command_line.Subcommand.TheVariants as subcommand
 use Rattle.lq_program.specs.declared.command_line.Values.{Values}
-use Rattle.lq_program.specs.CommandLine.{Ask, Given, Line, Load, Wanted, Work, given_of, is_value, line_of, only_operands, with_value}
+use Rattle.lq_program.specs.CommandLine.{Ask, Given, GivenWords, Load, Wanted, Work, given_of}
+use Rattle.lq_program.specs.CommandLine.{is_value, line_of, only_operands, with_value}
 
 -- ---- what the code has found
 
@@ -31,7 +32,7 @@ work_by (subcommand.Load number) = Load number
 
 -- ---- a line with what was read before it
 
-abbrev pub with_said : Said → Line → Line
+abbrev pub with_said : Said → GivenWords → GivenWords
 with_said said line = record {
   operands = option_to_list (option_copied said.operand) ++ line.operands;
   logs = option_to_list (option_copied said.log) ++ line.logs;
@@ -40,19 +41,19 @@ with_said said line = record {
 }
 
 -- the line of words that begin with an option's value
-abbrev pub value_line : Choice → List (List ℕ) → Option Line
+abbrev pub value_line : Choice → List (List ℕ) → Option GivenWords
 value_line choice [] = None
 value_line choice (value ∷ words) =
     if is_value value then option_map (with_value choice value) (line_of words) else None
 
 -- the line of words, by what the first of them is
-abbrev pub later_line : Awaited → List (List ℕ) → Option Line
+abbrev pub later_line : Awaited → List (List ℕ) → Option GivenWords
 later_line awaited.Any words = line_of words
 later_line (awaited.Value choice) words = value_line choice words
 later_line awaited.Operand words = Some (only_operands words)
 
 -- what is given by what was read and by the line of the words to come
-abbrev pub given_before : Said → Option Line → Option Given
+abbrev pub given_before : Said → Option GivenWords → Option Given
 given_before said later = option_and_then (λ line. given_of (with_said said line)) later
 
 abbrev pub given_with : Said → List (List ℕ) → Option Given

@@ -1,8 +1,12 @@
 ghost use Rattle.std.specs.Prelude.{◌≡◌, ◌⊎◌, ◌∷◌, ℕ, List, Some, [], map, string_bytes, IfErr};
 ghost use Rattle.std.specs.List.{before_first, after_first};
 ghost use Rattle.std.specs.Option.{option_and_then, option_copied, option_map};
-ghost use Rattle.lq_program.specs.CommandLine.{asked_words, choice_named, given_by, is_equals, is_value, line_of, load_of, number_up_to, only_operands, rule, strictness_of, wanted_of, with_joined, with_operand, with_value};
-ghost use Rattle.lq_program.specs.Words.{given_before, given_by_values, given_with, later_line, wanted_by, work_by};
+ghost use Rattle.lq_program.specs.CommandLine.{asked_words, choice_named, given_by, is_equals};
+ghost use Rattle.lq_program.specs.CommandLine.{is_value, line_of, load_of, number_up_to};
+ghost use Rattle.lq_program.specs.CommandLine.{only_operands, rule, strictness_of, wanted_of};
+ghost use Rattle.lq_program.specs.CommandLine.{with_option_and_value, with_operand, with_value};
+ghost use Rattle.lq_program.specs.Words.{given_before, given_by_values, given_with, later_line};
+ghost use Rattle.lq_program.specs.Words.{wanted_by, work_by};
 
 use crate::fault::Fault;
 use lq_records::Rules;
@@ -68,7 +72,7 @@ struct Values<'a> {
 
 impl<'a> Values<'a> {
     /// What `ask` asks by them, None where the value of an option isn't one that it takes.
-    fn asked(self) -> Option<Asked<'a>>
+    fn asked_work(self) -> Option<Asked<'a>>
         ensures { option_map wanted_by result ≡ wanted_of (given_by_values self.entry) }
     {
         Some(Asked {
@@ -143,7 +147,7 @@ impl<'a> Said<'a> {
         } else {
             match choice_named(word) {
                 Some(choice) => Some(self.with_awaited(Awaited::Value(choice))),
-                None => self.with_joined(word),
+                None => self.with_option_and_value(word),
             }
         }
     }
@@ -171,9 +175,10 @@ impl<'a> Said<'a> {
     }
 
     /// An option with its value in one word.
-    fn with_joined(self, word: &'a str) -> Option<Self>
+    fn with_option_and_value(self, word: &'a str) -> Option<Self>
         ensures { (words : List (List ℕ)) → option_and_then (λ said. given_with said words) result
-            ≡ given_before self.entry (option_and_then (with_joined word.now) (line_of words)) }
+            ≡ given_before self.entry
+            (option_and_then (with_option_and_value word.now) (line_of words)) }
     {
         match choice_named(before_equals(word)) {
             Some(choice) => self.with_value(choice, after_equals(word)),
@@ -208,7 +213,7 @@ impl<'a> Said<'a> {
     }
 
     /// What the words give, None where an option's value is missing or no value stands by itself.
-    fn given(self) -> Option<Values<'a>>
+    fn given_values(self) -> Option<Values<'a>>
         ensures { option_map given_by_values result ≡ given_with self.entry [] }
     {
         match self.awaited {
@@ -244,7 +249,7 @@ pub fn asked_words(words: &[String]) -> Option<Subcommand<'_>>
 {
     let (command, rest) = words.split_first()?;
     match command.as_str() {
-        "ask" => Some(Subcommand::Ask(given_by(rest)?.asked()?)),
+        "ask" => Some(Subcommand::Ask(given_by(rest)?.asked_work()?)),
         "load" => Some(Subcommand::Load(given_by(rest)?.load_number()?)),
         _ => None,
     }
@@ -261,7 +266,7 @@ fn given_by(words: &[String]) -> Option<Values<'_>>
         group_auth: None,
         awaited: Awaited::Any,
     };
-    said_after(nothing, words)?.given()
+    said_after(nothing, words)?.given_values()
 }
 
 /// What words say after others.

@@ -2,7 +2,8 @@ ghost use Rattle.std.specs.Prelude.{◌≡◌, ◌++◌, ◌≤◌, drop, OnOk};
 ghost use Rattle.std.specs.Fmt.{decimal};
 ghost use Rattle.std.specs.Io.KnownBytes.{Appends};
 ghost use Rattle.lq_outside.specs.Faults.{HasCause};
-ghost use Rattle.lq_program.specs.Faults.{IsStatus, at_line, end_text, log_text, objects_text, status_of};
+ghost use Rattle.lq_program.specs.Faults.{IsStatus, at_line, end_text, log_fault_text};
+ghost use Rattle.lq_program.specs.Faults.{objects_fault_text, status_of};
 
 use lq_objects::ObjectsWhat;
 use lq_outside::{Failed, Sink, write_all};
@@ -115,7 +116,8 @@ fn write_parts<K: Sink>(
 
 impl ObjectsFault {
     fn report<K: Sink>(self, sink: &mut K) -> Result<(), Failed>
-        ensures ok { OnOk result (Appends (K.held sink.old) (K.held sink.new) (objects_text self)) }
+        ensures ok { OnOk result
+            (Appends (K.held sink.old) (K.held sink.new) (objects_fault_text self)) }
         ensures cause { HasCause (K.faults sink.old) (K.faults sink.new) result }
     {
         match self {
@@ -129,7 +131,8 @@ impl ObjectsFault {
 
 impl LogFault {
     fn report<K: Sink>(self, sink: &mut K) -> Result<(), Failed>
-        ensures ok { OnOk result (Appends (K.held sink.old) (K.held sink.new) (log_text self)) }
+        ensures ok { OnOk result
+            (Appends (K.held sink.old) (K.held sink.new) (log_fault_text self)) }
         ensures cause { HasCause (K.faults sink.old) (K.faults sink.new) result }
     {
         match self {

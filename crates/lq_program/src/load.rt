@@ -1,4 +1,5 @@
-ghost use Rattle.std.specs.Prelude.{◌≡◌, ℕ, ◌≤◌, ◌%◌, ◌⊎◌, Some, None, IfOk, IfErr, OnOk, OnErr, IsSome, IsSomeAnd, length, string_bytes, sum};
+ghost use Rattle.std.specs.Prelude.{◌≡◌, ℕ, ◌≤◌, ◌%◌, ◌⊎◌, Some, None, IfOk, IfErr, OnOk, OnErr};
+ghost use Rattle.std.specs.Prelude.{IsSome, IsSomeAnd, length, string_bytes, sum};
 ghost use Rattle.std.specs.Io.KnownBytes.{Appends};
 ghost use Rattle.lq_outside.specs.Faults.{Rose};
 ghost use Rattle.lq_outside.specs.Sinks.{AppendsFront};

@@ -1,4 +1,5 @@
-ghost use Rattle.std.specs.Prelude.{◌≡◌, ◌↔◌, ◌⊎◌, ℕ, ◌≤◌, List, Option, None, map, string_bytes, IfOk, IfErr, IfSome, IsSomeAnd, OnSome};
+ghost use Rattle.std.specs.Prelude.{◌≡◌, ◌↔◌, ◌⊎◌, ℕ, ◌≤◌, List, Option, None, map, string_bytes};
+ghost use Rattle.std.specs.Prelude.{IfOk, IfErr, IfSome, IsSomeAnd, OnSome};
 ghost use Rattle.std.specs.Option.{option_copied};
 ghost use Rattle.std.specs.Io.KnownBytes.{Appends};
 ghost use Rattle.lq_outside.specs.Faults.{Rose};
@@ -7,9 +8,12 @@ ghost use Rattle.lq_records.specs.Sound.{IsSound};
 ghost use Rattle.lq_program.specs.CommandLine.{asked_connection, asked_load, asked_words};
 ghost use Rattle.lq_program.specs.Faults.{IsStatus, status_of, end_text};
 ghost use Rattle.lq_program.specs.Load.{load_line};
-ghost use Rattle.lq_session.specs.Reading.{ReadsAll, ReadsNoFurther, ReadsPart, ReadsSome, RepliesToFirst, RepliesToPart, RepliesToRead};
+ghost use Rattle.lq_session.specs.Reading.{ReadsAll, ReadsNoFurther, ReadsPart, ReadsSome};
+ghost use Rattle.lq_session.specs.Reading.{RepliesToFirst, RepliesToPart, RepliesToRead};
 ghost use Rattle.lq_session.specs.Replies.{replies};
-ghost use Rattle.lq_program.specs.Run.{IsRefused, IsRefusedLog, LoadsNoBase, LoadsNoLog, MustRefuse, MustRefuseLog, OnFile, OnLog, OnOpening, Opens, OpensLog, OpensNone, Reports, SaysBase, SaysLog};
+ghost use Rattle.lq_program.specs.Run.{IsRefused, IsRefusedLog, LoadsNoBase, LoadsNoLog};
+ghost use Rattle.lq_program.specs.Run.{MustRefuse, MustRefuseLog, OnFile, OnLog, OnOpening, Opens};
+ghost use Rattle.lq_program.specs.Run.{OpensLog, OpensNone, Reports, SaysBase, SaysLog};
 ghost use Rattle.lq_program.specs.Words.{wanted_by};
 
 use crate::command_line::{Asked, Subcommand, asked_words};

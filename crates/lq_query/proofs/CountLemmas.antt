@@ -7,7 +7,7 @@ use Rattle.std.proofs.lemmas.List.{append-nil, drop_more, get_or-map, get_or-tak
 use Rattle.std.proofs.lemmas.List.Sums.{sum_by-cons}
 use Rattle.std.specs.List.{AllByRecursion, AllZip, list_any}
 use Rattle.std.specs.Prelude.{All, Option, None, Some, IfSome, slice_get}
-use Rattle.lq_schema.specs.Value.{Value, shown, Number, Millionths, Words, Texts, Numbers, Pairs}
+use Rattle.lq_schema.specs.Value.{Value, meaning_of, Number, Millionths, Words, Texts, Numbers, Pairs}
 use Rattle.lq_schema.specs.declared.columns.Col.{Col}
 use Rattle.lq_filter.specs.Trees.{holds, truth_on}
 use Rattle.lq_filter.specs.declared.header.Header.{Header}
@@ -16,7 +16,7 @@ use Rattle.lq_request.specs.declared.entry.StatEntry.{StatEntry}
 use Rattle.lq_request.specs.declared.entry.StatEntry.TheVariants as entry
 use Rattle.lq_stats.specs.Columns.{IsColumnOf, cells_at, marked_rows}
 use Rattle.lq_stats.specs.Grouped.{AreGroupsOf, Grouped}
-use Rattle.lq_stats.specs.Groups.{IsCellOf, Key, Line, keys_of, lines_of, rows_of, shown_line, values_from}
+use Rattle.lq_stats.specs.Groups.{IsCellOf, Key, GroupLine, keys_of, stat_lines, rows_with_key, shown_line, values_from}
 use Rattle.lq_stats.specs.declared.spec.StatLine.{StatLine}
 use Rattle.lq_stats.specs.declared.spec.StatsSpec.{StatsSpec}
 use Rattle.lq_query.specs.Answer.{first_lines}
@@ -28,7 +28,7 @@ use Rattle.lq_stats.specs.declared.kind.StatKind.TheVariants as kind
 use Rattle.lq_tables.specs.declared.row.Row.{Row}
 use Rattle.lq_query.specs.Counting.{Counts, counted_from}
 use Rattle.lq_query.specs.Groups.{number_cell, stat_cell, stat_kind, stats_row}
-use Rattle.lq_query.specs.Rows.{chosen, row_cells}
+use Rattle.lq_query.specs.Rows.{chosen_rows, row_cells}
 
 -- ---- one row behind the other
 
@@ -198,7 +198,7 @@ module _ (columns : List Col) (stats : List StatEntry) (headers : List Header) (
   chosen_from : (front rows : List Row)
       → counted_from (λ row. row_cells columns (row_of row)) (length front) (map (λ (each : Row). holds (truth_on (row_of each)) headers) rows) rows
       (map (λ (entry : StatEntry). map (λ (each : Row). stat_cell (row_of each) entry) (front ++ rows)) stats)
-      ≡ map (stats_row columns stats) (chosen headers (map row_of rows))
+      ≡ map (stats_row columns stats) (chosen_rows headers (map row_of rows))
   chosen_from front [] = refl
   chosen_from front (row ∷ rows) =
       let all : front ++ (row ∷ rows) ≡ (front ++ row ∷ []) ++ rows = sym (append_assoc front (row ∷ []) rows) in
@@ -220,7 +220,7 @@ module _ (columns : List Col) (stats : List StatEntry) (headers : List Header) (
   pub chosen_counted : (rows : List Row)
       → counted_from (λ row. row_cells columns (row_of row)) 0 (map (λ (each : Row). holds (truth_on (row_of each)) headers) rows) rows
       (map (λ (entry : StatEntry). map (λ (each : Row). stat_cell (row_of each) entry) rows) stats)
-      ≡ map (stats_row columns stats) (chosen headers (map row_of rows))
+      ≡ map (stats_row columns stats) (chosen_rows headers (map row_of rows))
   chosen_counted rows = chosen_from [] rows
 
 -- ---- lines of groups
@@ -273,15 +273,15 @@ columns_more column_of stats place asked old column within before is made =
 
 -- ---- lines of groups
 
-pub have_values : (spec : StatsSpec) (rows : List StatsRow) (lines : List StatLine) → map shown_line lines ≡ lines_of spec rows → 0 < length spec.entries
+pub have_values : (spec : StatsSpec) (rows : List StatsRow) (lines : List StatLine) → map shown_line lines ≡ stat_lines spec rows → 0 < length spec.entries
     → (k : ℕ) (d : StatLine) → k < length lines → 0 < length (get_or lines k d).values
 have_values spec rows lines are some k d below =
-    let line_of : Key → Line = λ key. record { key = key; values = values_from 0 spec.entries (rows_of key rows) } in
+    let line_of : Key → GroupLine = λ key. record { key = key; values = values_from 0 spec.entries (rows_with_key key rows) } in
     let keys = keys_of spec.keys rows in
     let count : length lines ≡ length keys = sym (length-map lines shown_line) ∙ ap length are ∙ length-map keys line_of in
-    let line = sym (get_or-map shown_line lines k d (line_of []) below) ∙ ap (λ (those : List Line). get_or those k (line_of [])) are ∙ get_or-map line_of keys k [] (line_of []) (omega (arith, below, count)) in
-    let long = ap (λ (shown : Line). length shown.values) line ∙ values_length 0 spec.entries (rows_of (get_or keys k []) rows) in
-    omega (arith, some, long, length-map (get_or lines k d).values shown)
+    let line = sym (get_or-map shown_line lines k d (line_of []) below) ∙ ap (λ (those : List GroupLine). get_or those k (line_of [])) are ∙ get_or-map line_of keys k [] (line_of []) (omega (arith, below, count)) in
+    let long = ap (λ (shown : GroupLine). length shown.values) line ∙ values_length 0 spec.entries (rows_with_key (get_or keys k []) rows) in
+    omega (arith, some, long, length-map (get_or lines k d).values meaning_of)
 
 -- the first of some lines, as many as a limit says
 pub first_of_limit : {X : Type 0} (line : X → List Value) (limit : Option ℕ) (first lines : List X) → (limit ≡ None → first ≡ lines) → IfSome limit (λ most. first ≡ take most lines)

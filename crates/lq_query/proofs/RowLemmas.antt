@@ -16,8 +16,8 @@ use Rattle.lq_output.specs.Body.{body_limit, body_text}
 use Rattle.lq_output.specs.Writing.{Writes, Writing, IsTooLargeWith, AddsCell, EndsLine}
 use Rattle.lq_tables.specs.declared.row.Row.{Row}
 use Rattle.lq_query.specs.Answer.{first_lines}
-use Rattle.lq_query.specs.Rows.{chosen, row_cells}
-use Rattle.lq_query.specs.Lines.{AddsCells, AreTooLarge, HasLines, IsTooLarge, first_rows, marked}
+use Rattle.lq_query.specs.Rows.{chosen_rows, row_cells}
+use Rattle.lq_query.specs.Lines.{AddsCells, AreTooLarge, HasLines, IsTooLarge, first_rows, rows_with_marks}
 
 -- ---- lines one behind the other
 
@@ -113,14 +113,14 @@ lines_of_parts columns most front back =
     ∙ map-append (row_cells columns) (take most front) (take (most - length front) back)
 
 pub chosen-append : (headers : List Header) (row : Row → (Col → Value)) (front back : List Row)
-    → chosen headers (map row (front ++ back)) ≡ chosen headers (map row front) ++ chosen headers (map row back)
+    → chosen_rows headers (map row (front ++ back)) ≡ chosen_rows headers (map row front) ++ chosen_rows headers (map row back)
 chosen-append headers row front back =
-    ap (chosen headers) (map-append row front back)
+    ap (chosen_rows headers) (map-append row front back)
     ∙ filter-append (λ cells. holds (truth_on cells) headers) (map row front) (map row back)
 
 -- the rows that are marked as the filter says are those that it chooses
 pub chosen_marked : (headers : List Header) (row : Row → (Col → Value)) (rows : List Row)
-    → map row (marked (map (λ each. holds (truth_on (row each)) headers) rows) rows) ≡ chosen headers (map row rows)
+    → map row (rows_with_marks (map (λ each. holds (truth_on (row each)) headers) rows) rows) ≡ chosen_rows headers (map row rows)
 chosen_marked headers row [] = refl
 chosen_marked headers row (first ∷ rows) = ⊎_elim
     (λ (is : holds (truth_on (row first)) headers ≡ true). rw is (ap (λ l. row first ∷ l) (chosen_marked headers row rows)))
@@ -130,16 +130,16 @@ chosen_marked headers row (first ∷ rows) = ⊎_elim
 -- ---- rows that aren't tested
 
 -- without a header each row is chosen
-all_chosen : (rows : List (Col → Value)) → chosen [] rows ≡ rows
+all_chosen : (rows : List (Col → Value)) → chosen_rows [] rows ≡ rows
 all_chosen [] = refl
 all_chosen (row ∷ rows) = ap (λ l. row ∷ l) (all_chosen rows)
 
-pub chosen_by_none : (headers : List Header) (rows : List (Col → Value)) → length headers ≡ 0 → rows ≡ chosen headers rows
+pub chosen_by_none : (headers : List Header) (rows : List (Col → Value)) → length headers ≡ 0 → rows ≡ chosen_rows headers rows
 chosen_by_none [] rows none = sym (all_chosen rows)
 chosen_by_none (header ∷ headers) rows none = absurd (omega arith)
 
 -- where no mark is set no row is marked
-pub none_marked : (marks : List Bool) (rows : List Row) → list_any (λ mark. mark) marks ≡ false → marked marks rows ≡ []
+pub none_marked : (marks : List Bool) (rows : List Row) → list_any (λ mark. mark) marks ≡ false → rows_with_marks marks rows ≡ []
 none_marked [] rows none = refl
 none_marked (mark ∷ marks) [] none = refl
 none_marked (true ∷ marks) (row ∷ rows) none = cc
@@ -181,7 +181,7 @@ none_left columns most front back none =
 
 -- ---- one marked row after the other
 
-marked-append : (ma mb : List Bool) (ra rb : List Row) → length ma ≡ length ra → marked (ma ++ mb) (ra ++ rb) ≡ marked ma ra ++ marked mb rb
+marked-append : (ma mb : List Bool) (ra rb : List Row) → length ma ≡ length ra → rows_with_marks (ma ++ mb) (ra ++ rb) ≡ rows_with_marks ma ra ++ rows_with_marks mb rb
 marked-append [] mb [] rb same = refl
 marked-append [] mb (row ∷ ra) rb same = absurd (omega (arith, same))
 marked-append (mark ∷ ma) mb [] rb same = absurd (omega (arith, same))
@@ -192,21 +192,21 @@ module _ (marks : List Bool) (rows : List Row) (place : ℕ) (row : Row) (same :
   fronts : (n : ℕ) → length (take n marks) ≡ length (take n rows)
   fronts n = length-take n marks ∙ ap (λ k. min n k) same ∙ sym (length-take n rows)
 
-  pub marked_more : marked (take (place + 1) marks) (take (place + 1) rows)
-      ≡ marked (take place marks) (take place rows) ++ marked (get_or marks place false ∷ []) (get_or rows place row ∷ [])
+  pub marked_more : rows_with_marks (take (place + 1) marks) (take (place + 1) rows)
+      ≡ rows_with_marks (take place marks) (take place rows) ++ rows_with_marks (get_or marks place false ∷ []) (get_or rows place row ∷ [])
   marked_more =
-      ap (λ those. marked those (take (place + 1) rows)) (take_more marks place false (omega (arith, same, within)))
-      ∙ ap (λ those. marked (take place marks ++ get_or marks place false ∷ []) those) (take_more rows place row within)
+      ap (λ those. rows_with_marks those (take (place + 1) rows)) (take_more marks place false (omega (arith, same, within)))
+      ∙ ap (λ those. rows_with_marks (take place marks ++ get_or marks place false ∷ []) those) (take_more rows place row within)
       ∙ marked-append (take place marks) (get_or marks place false ∷ []) (take place rows) (get_or rows place row ∷ []) (fronts place)
 
-  pub marked_all : marked (take place marks) (take place rows)
-      ++ (marked (get_or marks place false ∷ []) (get_or rows place row ∷ []) ++ marked (drop (place + 1) marks) (drop (place + 1) rows)) ≡ marked marks rows
+  pub marked_all : rows_with_marks (take place marks) (take place rows)
+      ++ (rows_with_marks (get_or marks place false ∷ []) (get_or rows place row ∷ []) ++ rows_with_marks (drop (place + 1) marks) (drop (place + 1) rows)) ≡ rows_with_marks marks rows
   marked_all =
-      sym (append_assoc (marked (take place marks) (take place rows)) (marked (get_or marks place false ∷ []) (get_or rows place row ∷ [])) (marked (drop (place + 1) marks) (drop (place + 1) rows)))
-      ∙ ap (λ those. those ++ marked (drop (place + 1) marks) (drop (place + 1) rows)) (sym marked_more)
+      sym (append_assoc (rows_with_marks (take place marks) (take place rows)) (rows_with_marks (get_or marks place false ∷ []) (get_or rows place row ∷ [])) (rows_with_marks (drop (place + 1) marks) (drop (place + 1) rows)))
+      ∙ ap (λ those. those ++ rows_with_marks (drop (place + 1) marks) (drop (place + 1) rows)) (sym marked_more)
       ∙ sym (marked-append (take (place + 1) marks) (drop (place + 1) marks) (take (place + 1) rows) (drop (place + 1) rows) (fronts (place + 1)))
-      ∙ ap (λ those. marked those (take (place + 1) rows ++ drop (place + 1) rows)) (take-append-drop (place + 1) marks)
-      ∙ ap (marked marks) (take-append-drop (place + 1) rows)
+      ∙ ap (λ those. rows_with_marks those (take (place + 1) rows ++ drop (place + 1) rows)) (take-append-drop (place + 1) marks)
+      ∙ ap (rows_with_marks marks) (take-append-drop (place + 1) rows)
 
 -- ---- one place of a list
 
@@ -242,40 +242,40 @@ lines_all line rows place old new all first = subst (λ those. HasLines old new 
 -- ---- the lines of marked rows
 
 module _ (marks : List Bool) (rows : List Row) (place : ℕ) (row : Row) (same : length marks ≡ length rows) (within : place < length rows) where
-  pub not_marked_more : get_or marks place false ≡ false → marked (take (place + 1) marks) (take (place + 1) rows) ≡ marked (take place marks) (take place rows)
+  pub not_marked_more : get_or marks place false ≡ false → rows_with_marks (take (place + 1) marks) (take (place + 1) rows) ≡ rows_with_marks (take place marks) (take place rows)
   not_marked_more is =
       marked_more marks rows place row same within
-      ∙ ap (λ mark. marked (take place marks) (take place rows) ++ marked (mark ∷ []) (get_or rows place row ∷ [])) is
-      ∙ append-nil (marked (take place marks) (take place rows))
+      ∙ ap (λ mark. rows_with_marks (take place marks) (take place rows) ++ rows_with_marks (mark ∷ []) (get_or rows place row ∷ [])) is
+      ∙ append-nil (rows_with_marks (take place marks) (take place rows))
 
-  one_more : get_or marks place false ≡ true → marked (take (place + 1) marks) (take (place + 1) rows) ≡ marked (take place marks) (take place rows) ++ get_or rows place row ∷ []
+  one_more : get_or marks place false ≡ true → rows_with_marks (take (place + 1) marks) (take (place + 1) rows) ≡ rows_with_marks (take place marks) (take place rows) ++ get_or rows place row ∷ []
   one_more is =
       marked_more marks rows place row same within
-      ∙ ap (λ mark. marked (take place marks) (take place rows) ++ marked (mark ∷ []) (get_or rows place row ∷ [])) is
+      ∙ ap (λ mark. rows_with_marks (take place marks) (take place rows) ++ rows_with_marks (mark ∷ []) (get_or rows place row ∷ [])) is
 
-  pub marked_left : (most left new : ℕ) → left ≡ most - length (marked (take place marks) (take place rows)) → get_or marks place false ≡ true → new ≡ left - 1
-      → new ≡ most - length (marked (take (place + 1) marks) (take (place + 1) rows))
-  marked_left most left new count is next = omega (arith, count, next, ap length (one_more is), length-append (marked (take place marks) (take place rows)) (get_or rows place row ∷ []))
+  pub marked_left : (most left new : ℕ) → left ≡ most - length (rows_with_marks (take place marks) (take place rows)) → get_or marks place false ≡ true → new ≡ left - 1
+      → new ≡ most - length (rows_with_marks (take (place + 1) marks) (take (place + 1) rows))
+  marked_left most left new count is next = omega (arith, count, next, ap length (one_more is), length-append (rows_with_marks (take place marks) (take place rows)) (get_or rows place row ∷ []))
 
   module _ (columns : List Col) (row_of : Row → (Col → Value)) (old mid : Writing) (most left : ℕ)
-      (first : HasLines old mid (first_rows columns most (map row_of (marked (take place marks) (take place rows)))))
-      (count : left ≡ most - length (marked (take place marks) (take place rows))) (is : get_or marks place false ≡ true) where
-    counted : left ≡ most - length (map row_of (marked (take place marks) (take place rows)))
-    counted = count ∙ ap (λ n. most - n) (sym (length-map (marked (take place marks) (take place rows)) row_of))
+      (first : HasLines old mid (first_rows columns most (map row_of (rows_with_marks (take place marks) (take place rows)))))
+      (count : left ≡ most - length (rows_with_marks (take place marks) (take place rows))) (is : get_or marks place false ≡ true) where
+    counted : left ≡ most - length (map row_of (rows_with_marks (take place marks) (take place rows)))
+    counted = count ∙ ap (λ n. most - n) (sym (length-map (rows_with_marks (take place marks) (take place rows)) row_of))
 
     pub marked_added : (new : Writing) → HasLines mid new (first_rows columns left (row_of (get_or rows place row) ∷ []))
-        → HasLines old new (first_rows columns most (map row_of (marked (take (place + 1) marks) (take (place + 1) rows))))
+        → HasLines old new (first_rows columns most (map row_of (rows_with_marks (take (place + 1) marks) (take (place + 1) rows))))
     marked_added new next =
         subst (λ (those : List (Col → Value)). HasLines old new (first_rows columns most those))
-        (sym (map-append row_of (marked (take place marks) (take place rows)) (get_or rows place row ∷ [])) ∙ ap (map row_of) (sym (one_more is)))
-        (part_added columns old mid most left (map row_of (marked (take place marks) (take place rows))) first counted new (row_of (get_or rows place row) ∷ []) next)
+        (sym (map-append row_of (rows_with_marks (take place marks) (take place rows)) (get_or rows place row ∷ [])) ∙ ap (map row_of) (sym (one_more is)))
+        (part_added columns old mid most left (map row_of (rows_with_marks (take place marks) (take place rows))) first counted new (row_of (get_or rows place row) ∷ []) next)
 
-    pub marked_large : IsTooLarge mid (first_rows columns left (row_of (get_or rows place row) ∷ [])) → IsTooLarge old (first_rows columns most (map row_of (marked marks rows)))
+    pub marked_large : IsTooLarge mid (first_rows columns left (row_of (get_or rows place row) ∷ [])) → IsTooLarge old (first_rows columns most (map row_of (rows_with_marks marks rows)))
     marked_large large =
-        let front : List Row = marked (take place marks) (take place rows) in
-        let rest : List Row = marked (drop (place + 1) marks) (drop (place + 1) rows) in
-        let all : front ++ (get_or rows place row ∷ rest) ≡ marked marks rows
-        = ap (λ mark. front ++ (marked (mark ∷ []) (get_or rows place row ∷ []) ++ rest)) (sym is) ∙ marked_all marks rows place row same within in
+        let front : List Row = rows_with_marks (take place marks) (take place rows) in
+        let rest : List Row = rows_with_marks (drop (place + 1) marks) (drop (place + 1) rows) in
+        let all : front ++ (get_or rows place row ∷ rest) ≡ rows_with_marks marks rows
+        = ap (λ mark. front ++ (rows_with_marks (mark ∷ []) (get_or rows place row ∷ []) ++ rest)) (sym is) ∙ marked_all marks rows place row same within in
         subst (λ (those : List (Col → Value)). IsTooLarge old (first_rows columns most those))
         (sym (map-append row_of front (get_or rows place row ∷ rest)) ∙ ap (map row_of) all)
         (part_too_large columns old mid most left (map row_of front) first counted (row_of (get_or rows place row) ∷ []) (map row_of rest) large)
@@ -295,70 +295,70 @@ no_first_rows columns (suc most) rows none = ap (first_rows columns (suc most)) 
 
 module _ (headers : List Header) (row_of : Row → (Col → Value)) (rows : List Row) (at end : ℕ) (some : at < end) where
   -- the rows that are chosen up to the end of a block
-  pub up_to : chosen headers (map row_of (take end rows)) ≡ chosen headers (map row_of (take at rows)) ++ chosen headers (map row_of (take (end - at) (drop at rows)))
+  pub up_to : chosen_rows headers (map row_of (take end rows)) ≡ chosen_rows headers (map row_of (take at rows)) ++ chosen_rows headers (map row_of (take (end - at) (drop at rows)))
   up_to =
       let sum : end ≡ at + (end - at) = omega (arith, some) in
-      ap (λ n. chosen headers (map row_of (take n rows))) sum
-      ∙ ap (λ those. chosen headers (map row_of those)) (take-add at (end - at) rows)
+      ap (λ n. chosen_rows headers (map row_of (take n rows))) sum
+      ∙ ap (λ those. chosen_rows headers (map row_of those)) (take-add at (end - at) rows)
       ∙ chosen-append headers row_of (take at rows) (take (end - at) (drop at rows))
 
-  whole : chosen headers (map row_of (take at rows)) ++ (chosen headers (map row_of (take (end - at) (drop at rows))) ++ chosen headers (map row_of (drop end rows)))
-      ≡ chosen headers (map row_of rows)
+  whole : chosen_rows headers (map row_of (take at rows)) ++ (chosen_rows headers (map row_of (take (end - at) (drop at rows))) ++ chosen_rows headers (map row_of (drop end rows)))
+      ≡ chosen_rows headers (map row_of rows)
   whole =
-      sym (append_assoc (chosen headers (map row_of (take at rows))) (chosen headers (map row_of (take (end - at) (drop at rows)))) (chosen headers (map row_of (drop end rows))))
-      ∙ ap (λ those. those ++ chosen headers (map row_of (drop end rows))) (sym up_to)
+      sym (append_assoc (chosen_rows headers (map row_of (take at rows))) (chosen_rows headers (map row_of (take (end - at) (drop at rows)))) (chosen_rows headers (map row_of (drop end rows))))
+      ∙ ap (λ those. those ++ chosen_rows headers (map row_of (drop end rows))) (sym up_to)
       ∙ sym (chosen-append headers row_of (take end rows) (drop end rows))
-      ∙ ap (λ those. chosen headers (map row_of those)) (take-append-drop end rows)
+      ∙ ap (λ those. chosen_rows headers (map row_of those)) (take-append-drop end rows)
 
-  pub block_left : (most left new : ℕ) → left ≡ most - length (chosen headers (map row_of (take at rows)))
-      → new ≡ left - length (chosen headers (map row_of (take (end - at) (drop at rows)))) → new ≡ most - length (chosen headers (map row_of (take end rows)))
+  pub block_left : (most left new : ℕ) → left ≡ most - length (chosen_rows headers (map row_of (take at rows)))
+      → new ≡ left - length (chosen_rows headers (map row_of (take (end - at) (drop at rows)))) → new ≡ most - length (chosen_rows headers (map row_of (take end rows)))
   block_left most left new count next =
-      omega (arith, count, next, ap length up_to, length-append (chosen headers (map row_of (take at rows))) (chosen headers (map row_of (take (end - at) (drop at rows)))))
+      omega (arith, count, next, ap length up_to, length-append (chosen_rows headers (map row_of (take at rows))) (chosen_rows headers (map row_of (take (end - at) (drop at rows)))))
 
 module _ (columns : List Col) (headers : List Header) (row_of : Row → (Col → Value)) (rows : List Row) (at end : ℕ) (some : at < end)
-    (old mid : Writing) (most left : ℕ) (first : HasLines old mid (first_rows columns most (chosen headers (map row_of (take at rows)))))
-    (count : left ≡ most - length (chosen headers (map row_of (take at rows)))) where
-  pub block_added : (new : Writing) → HasLines mid new (first_rows columns left (chosen headers (map row_of (take (end - at) (drop at rows)))))
-      → HasLines old new (first_rows columns most (chosen headers (map row_of (take end rows))))
+    (old mid : Writing) (most left : ℕ) (first : HasLines old mid (first_rows columns most (chosen_rows headers (map row_of (take at rows)))))
+    (count : left ≡ most - length (chosen_rows headers (map row_of (take at rows)))) where
+  pub block_added : (new : Writing) → HasLines mid new (first_rows columns left (chosen_rows headers (map row_of (take (end - at) (drop at rows)))))
+      → HasLines old new (first_rows columns most (chosen_rows headers (map row_of (take end rows))))
   block_added new next =
       subst (λ (those : List (Col → Value)). HasLines old new (first_rows columns most those)) (sym (up_to headers row_of rows at end some))
-      (part_added columns old mid most left (chosen headers (map row_of (take at rows))) first count new (chosen headers (map row_of (take (end - at) (drop at rows)))) next)
+      (part_added columns old mid most left (chosen_rows headers (map row_of (take at rows))) first count new (chosen_rows headers (map row_of (take (end - at) (drop at rows)))) next)
 
-  pub block_large : IsTooLarge mid (first_rows columns left (chosen headers (map row_of (take (end - at) (drop at rows)))))
-      → IsTooLarge old (first_rows columns most (chosen headers (map row_of rows)))
+  pub block_large : IsTooLarge mid (first_rows columns left (chosen_rows headers (map row_of (take (end - at) (drop at rows)))))
+      → IsTooLarge old (first_rows columns most (chosen_rows headers (map row_of rows)))
   block_large large =
       subst (λ (those : List (Col → Value)). IsTooLarge old (first_rows columns most those)) (whole headers row_of rows at end some)
-      (part_too_large columns old mid most left (chosen headers (map row_of (take at rows))) first count (chosen headers (map row_of (take (end - at) (drop at rows)))) (chosen headers (map row_of (drop end rows))) large)
+      (part_too_large columns old mid most left (chosen_rows headers (map row_of (take at rows))) first count (chosen_rows headers (map row_of (take (end - at) (drop at rows)))) (chosen_rows headers (map row_of (drop end rows))) large)
 
 module _ (columns : List Col) (headers : List Header) (row_of : Row → (Col → Value)) (rows : List Row) (at most : ℕ) (old new : Writing)
-    (lines : HasLines old new (first_rows columns most (chosen headers (map row_of (take at rows))))) where
+    (lines : HasLines old new (first_rows columns most (chosen_rows headers (map row_of (take at rows))))) where
   -- all rows have been looked at
-  pub rows_done : length rows ≤ at → HasLines old new (first_rows columns most (chosen headers (map row_of rows)))
-  rows_done all = subst (λ those. HasLines old new (first_rows columns most (chosen headers (map row_of those)))) (take_all at rows all) lines
+  pub rows_done : length rows ≤ at → HasLines old new (first_rows columns most (chosen_rows headers (map row_of rows)))
+  rows_done all = subst (λ those. HasLines old new (first_rows columns most (chosen_rows headers (map row_of those)))) (take_all at rows all) lines
 
   -- as many rows as may be are shown
-  pub rows_shown : most - length (chosen headers (map row_of (take at rows))) ≡ 0 → HasLines old new (first_rows columns most (chosen headers (map row_of rows)))
+  pub rows_shown : most - length (chosen_rows headers (map row_of (take at rows))) ≡ 0 → HasLines old new (first_rows columns most (chosen_rows headers (map row_of rows)))
   rows_shown none =
       subst (HasLines old new)
-      (none_left columns most (chosen headers (map row_of (take at rows))) (chosen headers (map row_of (drop at rows))) none
-      ∙ ap (first_rows columns most) (sym (chosen-append headers row_of (take at rows) (drop at rows)) ∙ ap (λ those. chosen headers (map row_of those)) (take-append-drop at rows)))
+      (none_left columns most (chosen_rows headers (map row_of (take at rows))) (chosen_rows headers (map row_of (drop at rows))) none
+      ∙ ap (first_rows columns most) (sym (chosen-append headers row_of (take at rows) (drop at rows)) ∙ ap (λ those. chosen_rows headers (map row_of those)) (take-append-drop at rows)))
       lines
 
 -- ---- the lines that a query shows
 
-pub few_chosen : (headers : List Header) (row_of : Row → (Col → Value)) (rows : List Row) → length (chosen headers (map row_of rows)) ≤ length rows
+pub few_chosen : (headers : List Header) (row_of : Row → (Col → Value)) (rows : List Row) → length (chosen_rows headers (map row_of rows)) ≤ length rows
 few_chosen headers row_of rows =
     let chosen_of : (Col → Value) → Bool = λ cells. holds (truth_on cells) headers in
     omega (arith, length-filter chosen_of (map row_of rows), count_by-le-length chosen_of (map row_of rows), length-map rows row_of)
 
 pub limited_lines : (columns : List Col) (headers : List Header) (row_of : Row → (Col → Value)) (rows : List Row) (limit : Option ℕ) (most : ℕ)
     → (limit ≡ None → most ≡ length rows) → IfSome limit (λ count. most ≡ count)
-    → first_rows columns most (chosen headers (map row_of rows)) ≡ first_lines limit (map (row_cells columns) (chosen headers (map row_of rows)))
+    → first_rows columns most (chosen_rows headers (map row_of rows)) ≡ first_lines limit (map (row_cells columns) (chosen_rows headers (map row_of rows)))
 limited_lines columns headers row_of rows None most none some =
     let all : most ≡ length rows = none refl in
-    ap (map (row_cells columns)) (take_all most (chosen headers (map row_of rows)) (omega (arith, all, few_chosen headers row_of rows)))
+    ap (map (row_cells columns)) (take_all most (chosen_rows headers (map row_of rows)) (omega (arith, all, few_chosen headers row_of rows)))
 limited_lines columns headers row_of rows (Some count) most none some =
-    ap (λ n. first_rows columns n (chosen headers (map row_of rows))) some ∙ sym (take-map (row_cells columns) count (chosen headers (map row_of rows)))
+    ap (λ n. first_rows columns n (chosen_rows headers (map row_of rows))) some ∙ sym (take-map (row_cells columns) count (chosen_rows headers (map row_of rows)))
 
 -- with further cells behind them too many cells stay too many
 pub AreTooLarge-front : (old : Writing) (cells later : List Value) → AreTooLarge old cells → AreTooLarge old (cells ++ later)

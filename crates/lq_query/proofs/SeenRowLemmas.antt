@@ -36,7 +36,7 @@ use Rattle.lq_tables.specs.About.{host_of_object, row_comment, row_downtime, row
 use Rattle.lq_columns.specs.Cells.{flag}
 use Rattle.lq_tables.specs.Cells.{cell_of, contact_group_cell, host_group_part, host_part, own_cell, service_group_part, service_part}
 use Rattle.lq_tables.specs.Parts.{command_cell, comment_cell, contact_cell, downtime_cell, line_cell, period_cell, program_cell, program_part, schema_cell}
-use Rattle.lq_tables.specs.Rows.{group_service_rows, has_line_within, host_group_rows, is_within, numbered, places_of, rows_of, sees_entry, sees_row, service_group_rows, service_rows, table_rows}
+use Rattle.lq_tables.specs.Rows.{group_service_rows, has_line_within, host_group_rows, is_within, with_places, places_of, rows_of, sees_entry, sees_row, service_group_rows, service_rows, table_rows}
 use Rattle.lq_tables.specs.declared.row.Row.{Row}
 use Rattle.lq_tables.specs.declared.row.Row.TheVariants as row
 use Rattle.lq_tables.specs.declared.window.Window.{Window}
@@ -308,10 +308,10 @@ module _ (s t : State) (view : View) (agree : AgreesIn view s (like s t)) (windo
   rows_same own_history have_outputs here there table.TimePeriods = fixed_same (table_rows s window table.TimePeriods) (fixed_map _ (λ place. refl) _)
   rows_same own_history have_outputs here there table.Status = fixed_same (table_rows s window table.Status) (refl, tt)
   rows_same own_history have_outputs here there table.Columns = fixed_same (table_rows s window table.Columns) (fixed_map row.Column (λ place. refl) _)
-  rows_same own_history have_outputs here there table.HostsByGroup = fixed_same (table_rows s window table.HostsByGroup) (fixed_flat host_group_rows hosts_fixed (numbered s.base.host_groups))
+  rows_same own_history have_outputs here there table.HostsByGroup = fixed_same (table_rows s window table.HostsByGroup) (fixed_flat host_group_rows hosts_fixed (with_places s.base.host_groups))
   rows_same own_history have_outputs here there table.ServicesByGroup =
-      fixed_same (table_rows s window table.ServicesByGroup) (fixed_flat service_group_rows services_fixed (numbered s.base.service_groups))
+      fixed_same (table_rows s window table.ServicesByGroup) (fixed_flat service_group_rows services_fixed (with_places s.base.service_groups))
   rows_same own_history have_outputs here there table.ServicesByHostGroup =
       fixed_same (table_rows s window table.ServicesByHostGroup)
-      (fixed_flat (group_service_rows s.base.services) (group_services_fixed s.base.services) (numbered s.base.host_groups))
+      (fixed_flat (group_service_rows s.base.services) (group_services_fixed s.base.services) (with_places s.base.host_groups))
   rows_same own_history have_outputs here there table.StateHist = slices_same s t view agree window own_history have_outputs

@@ -35,7 +35,7 @@ use Rattle.lq_schema.specs.Value.{Numbers}
 use Rattle.lq_live.specs.State.{State}
 use Rattle.lq_auth.specs.Rights.{sees_host, sees_object, sees_service, sees_service_at}
 use Rattle.lq_auth.specs.declared.view.View.{View}
-use Rattle.lq_columns.specs.Cells.{HostRecord, ServiceRecord, flag, host_at, host_cell, hosts_cell, natural, period_of, service_at, service_cell, services_cell, status_cell}
+use Rattle.lq_columns.specs.Cells.{HostRecord, ServiceRecord, flag, host_at, host_cell, hosts_cell, natural, notification_period_of, service_at, service_cell, services_cell, status_cell}
 use Rattle.lq_columns.specs.Counts.{group_members, scope_places, seen_members, seen_places, service_places, worst_host, worst_of, worst_service}
 use Rattle.lq_columns.specs.Names.{is_service_of}
 use Rattle.lq_columns.specs.declared.scope.Scope.{Scope}
@@ -108,7 +108,7 @@ module _ (s t : State) (view : View) (agree : AgreesIn view s (like s t)) where
       (kept_of_same (λ (downtime : Downtime). is_same_object downtime.object about) (λ downtime. is_shown s.base view downtime.object)
       (λ downtime is. same_shown downtime.object about is shown) s.downtimes t.downtimes agree.downtimes)
   status_same about shown status status_column.IsFlapping = ap flag (flapping_agrees s.base view s.log t.log agree.lines about shown)
-  status_same about shown status status_column.InNotificationPeriod = ap flag (period_agrees s.base view s.log t.log agree.lines (period_of s.base about))
+  status_same about shown status status_column.InNotificationPeriod = ap flag (period_agrees s.base view s.log t.log agree.lines (notification_period_of s.base about))
   status_same about shown status _ = refl
 
   -- ---- counters

@@ -19,7 +19,7 @@ use Rattle.lq_schema.specs.declared.slice.SliceColumn.{SliceColumn}
 use Rattle.lq_schema.specs.declared.slice.SliceColumn.TheVariants as slice
 use Rattle.lq_schema.specs.Kinds.{program_kind}
 use Rattle.lq_schema.specs.Value.{Value, Words, empty_value}
-use Rattle.lq_log.specs.Told.{object_named, object_of, subject_of}
+use Rattle.lq_log.specs.Told.{object_named, object_of, form_subject}
 use Rattle.lq_live.specs.State.{State}
 use Rattle.lq_auth.specs.Rights.{sees_object}
 use Rattle.lq_auth.specs.Lines.{is_open, is_transition}
@@ -27,11 +27,11 @@ use Rattle.lq_auth.specs.declared.view.View.{View}
 use Rattle.lq_auth.specs.declared.view.View.TheVariants.{All, Only}
 use Rattle.lq_statehist.specs.Facts.{Subject, known_at}
 use Rattle.lq_statehist.specs.History.{history, slice_of}
-use Rattle.lq_statehist.specs.Laws.{HaveOutputs, IsOwnHistory, Shown, concerns, is_about, output_at, shown}
+use Rattle.lq_statehist.specs.Laws.{HaveOutputs, IsOwnHistory, Shown, concerns, is_about, output_of_line, shown_piece}
 use Rattle.lq_statehist.specs.Notes.{notes_of}
 use Rattle.lq_statehist.specs.Slices.{host_subject, seen_subjects, service_subject, subjects_of}
-use Rattle.lq_statehist.specs.Sorted.{host_of}
-use Rattle.lq_statehist.specs.Tiling.{Piece, pieces_of}
+use Rattle.lq_statehist.specs.Sorted.{host_about}
+use Rattle.lq_statehist.specs.Tiling.{HistoryPiece, pieces_between}
 use Rattle.lq_tables.specs.About.{host_of_object, service_of_object}
 use Rattle.lq_tables.specs.Cells.{cell_of, contact_group_cell, host_group_part, host_part, own_cell, service_group_part, service_part}
 use Rattle.lq_tables.specs.Parts.{command_cell, comment_cell, contact_cell, downtime_cell, line_cell, period_cell, schema_cell}
@@ -70,7 +70,7 @@ or_last false true = refl
 or_last false false = refl
 
 transition_shown : (base : Base) (seen : View) (entry : LogEntry) (is : Kind)
-    → option_map_or (is_shown base seen) (object_named base entry (subject_of is)) (entry.class == 0 || entry.class == 2 || is_transition is) ≡ false → is_transition is ≡ false
+    → option_map_or (is_shown base seen) (object_named base entry (form_subject is)) (entry.class == 0 || entry.class == 2 || is_transition is) ≡ false → is_transition is ≡ false
 transition_shown base seen entry (kind.TimeperiodTransition name from to) hidden = absurd (true≢false (sym (or_last (entry.class == 0) (entry.class == 2)) ∙ hidden))
 transition_shown base seen entry _ hidden = refl
 
@@ -98,7 +98,7 @@ near_line base view about own host entry near = by (is_line_shown base view entr
 -- ---- each object has its host
 
 abbrev HasHost : Base → Subject → Type 0
-HasHost base about = host_of base about.object ≡ Some about.host
+HasHost base about = host_about base about.object ≡ Some about.host
 
 hosts_have : (base : Base) (hosts : List Host) (place : ℕ) → AllByRecursion (HasHost base) (map host_subject (enumerate_from place hosts))
 hosts_have base [] place = tt
@@ -178,18 +178,18 @@ told_cell at view window about part (own.Program column) = empty_value (program_
 told_cell at view window about part (own.Schema column) = schema_cell None column
 
 module _ (at : State) (view : View) (window : Window) (about : Subject) where
-  slice_told : (piece : Piece) → output_at at.log piece.known.line ≡ piece.known.facts.output → (column : SliceColumn)
+  slice_told : (piece : HistoryPiece) → output_of_line at.log piece.known.line ≡ piece.known.facts.output → (column : SliceColumn)
       → slice_cell at (Some (record { slice = slice_of about.object piece; from = window.from; until = window.until })) column
-      ≡ told_slice at (made_row window about (shown piece)) piece.known.facts.output column
+      ≡ told_slice at (made_row window about (shown_piece piece)) piece.known.facts.output column
   slice_told piece output slice.LogOutput = ap Words (line_output piece.known.line ∙ output)
     where
-      line_output : (line : Option ℕ) → line_output_at at.log line ≡ output_at at.log line
+      line_output : (line : Option ℕ) → line_output_at at.log line ≡ output_of_line at.log line
       line_output None = refl
       line_output (Some place) = refl
   slice_told piece output _ = refl
 
-  cell_told : (piece : Piece) → output_at at.log piece.known.line ≡ piece.known.facts.output → (column : OwnColumn)
-      → own_cell at view (history_row window (slice_of about.object piece)) column ≡ told_cell at view window about (shown piece) column
+  cell_told : (piece : HistoryPiece) → output_of_line at.log piece.known.line ≡ piece.known.facts.output → (column : OwnColumn)
+      → own_cell at view (history_row window (slice_of about.object piece)) column ≡ told_cell at view window about (shown_piece piece) column
   cell_told piece output (own.Slice column) = slice_told piece output column
   cell_told piece output _ = refl
 
@@ -197,18 +197,18 @@ module _ (at : State) (view : View) (window : Window) (about : Subject) where
   abbrev row_told : Shown → Col → Value
   row_told part = λ column. told_cell at view window about part column.own
 
-  pieces_told : (pieces : List Piece) → AllByRecursion (λ piece. output_at at.log piece.known.line ≡ piece.known.facts.output) pieces
-      → map (λ piece. cell_of at view (history_row window (slice_of about.object piece))) pieces ≡ map row_told (map shown pieces)
+  pieces_told : (pieces : List HistoryPiece) → AllByRecursion (λ piece. output_of_line at.log piece.known.line ≡ piece.known.facts.output) pieces
+      → map (λ piece. cell_of at view (history_row window (slice_of about.object piece))) pieces ≡ map row_told (map shown_piece pieces)
   pieces_told [] all = refl
   pieces_told (piece ∷ pieces) all =
       ap (λ first. first ∷ map (λ piece. cell_of at view (history_row window (slice_of about.object piece))) pieces) (λ i column. cell_told piece all.0 column.own i)
-      ∙ ap (λ rest. row_told (shown piece) ∷ rest) (pieces_told pieces all.1)
+      ∙ ap (λ rest. row_told (shown_piece piece) ∷ rest) (pieces_told pieces all.1)
 
-  abbrev pieces_at : List Piece
-  pieces_at = pieces_of (known_at about (notes_of at.base at.log)) window.from window.until
+  abbrev pieces_at : List HistoryPiece
+  pieces_at = pieces_between (known_at about (notes_of at.base at.log)) window.from window.until
 
   -- the rows of an object
-  rows_told : HaveOutputs → map (cell_of at view) (map (history_row window) (history about (notes_of at.base at.log) window.from window.until)) ≡ map row_told (map shown pieces_at)
+  rows_told : HaveOutputs → map (cell_of at view) (map (history_row window) (history about (notes_of at.base at.log) window.from window.until)) ≡ map row_told (map shown_piece pieces_at)
   rows_told have_outputs =
       map_twice (cell_of at view) (history_row window) (map (slice_of about.object) pieces_at)
       ∙ map_twice (λ part. cell_of at view (history_row window part)) (slice_of about.object) pieces_at
@@ -227,7 +227,7 @@ module _ (s t : State) (view : View) (agree : AgreesIn view s (like s t)) (windo
   told_same about sees part (own.Slice column) = told_slice_same about part column
   told_same about sees part _ = refl
 
-  host_is_shown : (about : Object) (host : HostId) → sees_object view about ≡ true → host_of s.base about ≡ Some host → is_shown s.base view (object.Host host) ≡ true
+  host_is_shown : (about : Object) (host : HostId) → sees_object view about ≡ true → host_about s.base about ≡ Some host → is_shown s.base view (object.Host host) ≡ true
   host_is_shown (object.Host id) host sees is =
       subst (λ (found : HostId). is_shown s.base view (object.Host found) ≡ true) (ap (λ (found : Option HostId). unwrap_or found id) is) (seen_shown s t view agree (object.Host id) sees)
   host_is_shown (object.Service id) host sees is = by (slice_get s.base.services id.0) refl is
@@ -251,7 +251,7 @@ module _ (s t : State) (view : View) (agree : AgreesIn view s (like s t)) (windo
       rows_told s view window about have_outputs
       ∙ ap (map (row_told s view window about)) (own_history s.base about s.log t.log (own_lines about seen) window.from window.until)
       ∙ map_alike (row_told s view window about) (row_told (like s t) view window about) (λ part. λ i column. told_same about seen.sees part column.own i)
-      (map shown (pieces_at (like s t) view window about))
+      (map shown_piece (pieces_at (like s t) view window about))
       ∙ sym (rows_told (like s t) view window about have_outputs)
 
   objects_same : IsOwnHistory → HaveOutputs → (subjects : List Subject) → AllByRecursion (IsSeen s.base view) subjects

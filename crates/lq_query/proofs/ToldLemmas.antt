@@ -10,7 +10,7 @@ use Rattle.lq_events.specs.declared.log_entry.Kind.{Kind}
 use Rattle.lq_events.specs.declared.log_entry.Kind.TheVariants as kind
 use Rattle.lq_events.specs.declared.log_entry.LogEntry.{LogEntry}
 use Rattle.lq_log.specs.LastTold.{flapping_told, is_flapping, is_period_on, last_told, period_in, period_of_kind, period_told}
-use Rattle.lq_log.specs.Told.{object_named, object_of, subject_of, told_as, told_by}
+use Rattle.lq_log.specs.Told.{object_named, object_of, form_subject, told_as, told_by}
 use Rattle.lq_auth.specs.Lines.{is_open, is_transition}
 use Rattle.lq_auth.specs.declared.view.View.{View}
 use Rattle.lq_auth.specs.declared.view.View.TheVariants.{All, Only}
@@ -72,7 +72,7 @@ either_none false found none = refl
 
 -- a line by which no period goes over tells of none, and one by which one does is shown
 hidden_kind : (base : Base) (seen : View) (entry : LogEntry) (is : Kind) → entry.kind ≡ is
-    → option_map_or (is_shown base seen) (object_named base entry (subject_of is)) (entry.class == 0 || entry.class == 2 || is_transition is) ≡ false → period_in (told_as entry is) ≡ None
+    → option_map_or (is_shown base seen) (object_named base entry (form_subject is)) (entry.class == 0 || entry.class == 2 || is_transition is) ≡ false → period_in (told_as entry is) ≡ None
 hidden_kind base seen entry (kind.TimeperiodTransition name from to) same hidden =
     absurd (true≢false (sym (or_true (entry.class == 0) (entry.class == 2)) ∙ hidden))
 hidden_kind base seen entry _ same hidden = refl

@@ -1,5 +1,7 @@
 -- The reply to a query at a state.
-use Rattle.std.specs.Prelude.{ℕ, zero, suc, ◌+◌, ◌==◌, ◌&&◌, nat_lt, Bool, true, false, Option, None, Some, List, [], ◌∷◌, ◌++◌, codes, length, map, take, unwrap_or, if◌then◌else◌}
+use Rattle.std.specs.Prelude.{ℕ, zero, suc, ◌+◌, ◌==◌, ◌&&◌, nat_lt, Bool, true, false, Option}
+use Rattle.std.specs.Prelude.{None, Some, List, [], ◌∷◌, ◌++◌, codes, length, map, take, unwrap_or}
+use Rattle.std.specs.Prelude.{if◌then◌else◌}
 use Rattle.std.specs.Fmt.{decimal}
 use Rattle.lq_records.specs.declared.refusal.Refusal.{Refusal}
 use Rattle.lq_schema.specs.declared.columns.Col.{Col}
@@ -8,14 +10,14 @@ use Rattle.lq_schema.specs.Names.{full_name}
 use Rattle.lq_schema.specs.Value.{Value, Words}
 use Rattle.lq_auth.specs.Rights.{view_of}
 use Rattle.lq_live.specs.State.{State}
-use Rattle.lq_output.specs.Body.{body_text}
+use Rattle.lq_output.specs.Body.{body_limit, body_text}
 use Rattle.lq_output.specs.Header.{header_text, refusal_text}
 use Rattle.lq_output.specs.declared.layout.Layout.{Layout}
 use Rattle.lq_request.specs.declared.request.Request.{Request}
 use Rattle.lq_tables.specs.Rows.{is_history}
 use Rattle.lq_tables.specs.declared.window.Window.{Window}
 use Rattle.lq_query.specs.Groups.{group_lines}
-use Rattle.lq_query.specs.Rows.{chosen, row_cells, seen_rows}
+use Rattle.lq_query.specs.Rows.{chosen_rows, row_cells, seen_rows}
 use Rattle.lq_query.specs.declared.reply.Reply.{Reply}
 
 -- ---- rows
@@ -34,8 +36,8 @@ asked_rows request s =
     seen_rows s (view_of s.base request.user) (window_of request s) request.table
 
 -- more than 1,000,000 slices of histories are too many, however few of them the filter chooses
-abbrev pub are_too_many : Table → List (Col → Value) → Bool
-are_too_many table rows = is_history table && nat_lt 1000000 (length rows)
+abbrev pub rows_are_too_many : Table → List (Col → Value) → Bool
+rows_are_too_many table rows = is_history table && nat_lt 1000000 (length rows)
 
 -- ---- lines
 
@@ -79,7 +81,7 @@ shown_lines request rows =
 abbrev pub reply_lines : Request → List (Col → Value) → List (List Value)
 reply_lines request rows =
     with_names request.head (line_of_names request)
-    (first_lines request.limit (shown_lines request (chosen request.filter rows)))
+    (first_lines request.limit (shown_lines request (chosen_rows request.filter rows)))
 
 -- ---- text
 
@@ -92,9 +94,9 @@ abbrev pub reply_body : Request → List (Col → Value) → List ℕ
 reply_body request rows = body_text (layout_of request) (reply_lines request rows)
 
 -- with the line of 16 bytes before it where that is asked for
-abbrev pub headed : Bool → List ℕ → List ℕ
-headed true body = header_text 200 (length body) ++ body
-headed false body = body
+abbrev pub with_fixed_header : Bool → List ℕ → List ℕ
+with_fixed_header true body = header_text 200 (length body) ++ body
+with_fixed_header false body = body
 
 -- what replaces a reply that is too large
 abbrev pub too_large : Refusal
@@ -104,16 +106,16 @@ abbrev pub large_reply : Bool → Reply
 large_reply fixed16 = record { code = 413; bytes = refusal_text too_large fixed16 }
 
 -- a body of more than 8,388,608 bytes is replaced by the refusal 413; any other has the code 200
-abbrev pub limited : Bool → List ℕ → Reply
-limited fixed16 body =
-    if nat_lt 8388608 (length body) then large_reply fixed16
-    else record { code = 200; bytes = headed fixed16 body }
+abbrev pub reply_of_body : Bool → List ℕ → Reply
+reply_of_body fixed16 body =
+    if nat_lt body_limit (length body) then large_reply fixed16
+    else record { code = 200; bytes = with_fixed_header fixed16 body }
 
 -- the reply that the rows make which the user sees; the refusal 413 also replaces that of too many
 abbrev pub reply_with : Request → List (Col → Value) → Reply
 reply_with request rows =
-    if are_too_many request.table rows then large_reply request.fixed16
-    else limited request.fixed16 (reply_body request rows)
+    if rows_are_too_many request.table rows then large_reply request.fixed16
+    else reply_of_body request.fixed16 (reply_body request rows)
 
 abbrev pub answer_of : Request → State → Reply
 answer_of request s = reply_with request (asked_rows request s)

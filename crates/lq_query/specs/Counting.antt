@@ -12,9 +12,9 @@ use Rattle.lq_query.specs.declared.entry.ReadyEntry.{ReadyEntry}
 use Rattle.lq_query.specs.declared.entry.ReadyEntry.TheVariants as ready
 
 -- the entry that is made ready
-abbrev pub entry_of : ReadyEntry → StatEntry
-entry_of (ready.Count filter) = entry.Count filter
-entry_of (ready.Over kind column) = entry.Over kind column
+abbrev pub entry_of_ready : ReadyEntry → StatEntry
+entry_of_ready (ready.Count filter) = entry.Count filter
+entry_of_ready (ready.Over kind column) = entry.Over kind column
 
 -- the rows were counted beside those before, and no key is begun
 pub record Counts (old new : Grouped) (rows : List StatsRow) : Type 0 where

@@ -1,11 +1,12 @@
 -- The statistics of rows.
-use Rattle.std.specs.Prelude.{◌^◌, nat_le, pos, List, ◌++◌, length, map, unsigned_abs, if◌then◌else◌}
+use Rattle.std.specs.Prelude.{◌^◌, nat_le, pos, List, ◌++◌, length, map, unsigned_abs}
+use Rattle.std.specs.Prelude.{if◌then◌else◌}
 use Rattle.lq_schema.specs.declared.columns.Col.{Col}
 use Rattle.lq_schema.specs.Value.{Value, Number}
 use Rattle.lq_filter.specs.Trees.{holds, truth_on}
 use Rattle.lq_request.specs.declared.entry.StatEntry.{StatEntry}
 use Rattle.lq_request.specs.declared.entry.StatEntry.TheVariants as entry
-use Rattle.lq_stats.specs.Groups.{Line, Row, lines_of}
+use Rattle.lq_stats.specs.Groups.{GroupLine, Row, stat_lines}
 use Rattle.lq_stats.specs.declared.cell.StatCell.{StatCell}
 use Rattle.lq_stats.specs.declared.cell.StatCell.TheVariants as cell
 use Rattle.lq_stats.specs.declared.kind.StatKind.{StatKind}
@@ -38,11 +39,11 @@ abbrev pub stats_spec : List Col → List StatEntry → StatsSpec
 stats_spec columns stats = record { keys = length columns; entries = map stat_kind stats }
 
 -- the cells that the rows of a group have in common, then its values
-abbrev pub line_cells : Line → List Value
+abbrev pub line_cells : GroupLine → List Value
 line_cells line = line.key ++ line.values
 
 -- a line for each group
 abbrev pub group_lines : List Col → List StatEntry → List (Col → Value) → List (List Value)
 group_lines columns stats rows =
     map line_cells
-    (lines_of (stats_spec columns stats) (map (stats_row columns stats) rows))
+    (stat_lines (stats_spec columns stats) (map (stats_row columns stats) rows))

@@ -1,5 +1,6 @@
 -- What is added to the body of a reply. Each of these holds of whichever lines stand before.
-use Rattle.std.specs.Prelude.{◌≡◌, ℕ, ◌<◌, Bool, List, [], ◌∷◌, ◌++◌, length, map, take, if◌then◌else◌}
+use Rattle.std.specs.Prelude.{◌≡◌, ℕ, ◌<◌, Bool, List, [], ◌∷◌, ◌++◌, length, map, take}
+use Rattle.std.specs.Prelude.{if◌then◌else◌}
 use Rattle.lq_output.specs.Body.{body_limit, body_text}
 use Rattle.lq_output.specs.Writing.{Writes, Writing}
 use Rattle.lq_schema.specs.declared.columns.Col.{Col}
@@ -49,11 +50,11 @@ rows_in sight request =
     request.table
 
 -- the rows that are marked
-abbrev pub marked : List Bool → List Row → List Row
-marked [] rows = []
-marked (mark ∷ marks) [] = []
-marked (mark ∷ marks) (row ∷ rows) =
-    if mark then row ∷ marked marks rows else marked marks rows
+abbrev pub rows_with_marks : List Bool → List Row → List Row
+rows_with_marks [] rows = []
+rows_with_marks (mark ∷ marks) [] = []
+rows_with_marks (mark ∷ marks) (row ∷ rows) =
+    if mark then row ∷ rows_with_marks marks rows else rows_with_marks marks rows
 
 -- the lines of the first of some rows
 abbrev pub first_rows : List Col → ℕ → List (Col → Value) → List (List Value)

@@ -17,8 +17,8 @@ abbrev pub seen_rows : State → View → Window → Table → List (Col → Val
 seen_rows s view window table = map (cell_of s view) (rows_of s view window table)
 
 -- the rows that the headers of a filter choose
-abbrev pub chosen : List Header → List (Col → Value) → List (Col → Value)
-chosen headers rows = filter (λ row. holds (truth_on row) headers) rows
+abbrev pub chosen_rows : List Header → List (Col → Value) → List (Col → Value)
+chosen_rows headers rows = filter (λ row. holds (truth_on row) headers) rows
 
 -- the cells of a row
 abbrev pub row_cells : List Col → (Col → Value) → List Value

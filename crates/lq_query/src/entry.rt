@@ -1,10 +1,10 @@
 ghost use Rattle.std.specs.Prelude.{◌≡◌, IfOk, map};
 ghost use Rattle.lq_filter.specs.Trees.{holds, truth_on};
 ghost use Rattle.lq_filter.specs.declared.header.Header.{Header};
-ghost use Rattle.lq_schema.specs.Value.{Number, shown};
+ghost use Rattle.lq_schema.specs.Value.{Number, meaning_of};
 ghost use Rattle.lq_stats.specs.Columns.{column_cells};
 ghost use Rattle.lq_stats.specs.declared.cell.StatCell.TheVariants as cell;
-ghost use Rattle.lq_query.specs.Counting.{entry_of};
+ghost use Rattle.lq_query.specs.Counting.{entry_of_ready};
 ghost use Rattle.lq_query.specs.Groups.{number_cell, stat_cell};
 ghost use Rattle.lq_query.specs.Lines.{seen_cells};
 
@@ -36,8 +36,9 @@ impl ReadyEntry<'_> {
         rows: &[Row],
     ) -> Result<StatColumn, Memory>
         ensures cells { IfOk result (λ cells. column_cells cells
-            ≡ map (λ row. stat_cell (seen_cells sight.now row) (entry_of self.old)) rows.now) }
-        ensures same { entry_of self.new ≡ entry_of self.old }
+            ≡ map (λ row. stat_cell (seen_cells sight.now row) (entry_of_ready self.old))
+            rows.now) }
+        ensures same { entry_of_ready self.new ≡ entry_of_ready self.old }
     {
         match self {
             ReadyEntry::Count(filter) => counted_cells(alloc, filter, sight, rows),
@@ -48,7 +49,7 @@ impl ReadyEntry<'_> {
 
 /// The entries of a query made ready.
 pub fn ready_entries(alloc: Global, stats: &[StatEntry]) -> Result<Vec<ReadyEntry<'_>>, Memory>
-    ensures { IfOk result (λ entries. map entry_of entries.items ≡ stats.now) }
+    ensures { IfOk result (λ entries. map entry_of_ready entries.items ≡ stats.now) }
 {
     let mut entries = Vec::with_capacity(alloc, stats.len())?;
     for entry in stats {
@@ -58,7 +59,7 @@ pub fn ready_entries(alloc: Global, stats: &[StatEntry]) -> Result<Vec<ReadyEntr
 }
 
 fn ready_entry(alloc: Global, entry: &StatEntry) -> Result<ReadyEntry<'_>, Memory>
-    ensures { IfOk result (λ ready. entry_of ready ≡ entry.now) }
+    ensures { IfOk result (λ ready. entry_of_ready ready ≡ entry.now) }
 {
     match entry {
         StatEntry::Count(filter) => Ok(ReadyEntry::Count(filter.ready(alloc)?)),
@@ -105,7 +106,7 @@ fn row_cell(alloc: Global, sight: &Sight<'_>, row: &Row, column: Col) -> Result<
         cell.Number number ≡ number_cell (seen_cells sight.now row.now column)) }
 {
     match row_number(sight.live, row, column) {
-        Some(number) => Ok(sized(number)),
+        Some(number) => Ok(sized_number(number)),
         None => value_number(alloc, sight, row, column),
     }
 }
@@ -122,15 +123,15 @@ fn value_number(alloc: Global, sight: &Sight<'_>, row: &Row, column: Col) -> Res
 
 /// The number that a value is, and 0 for any other.
 fn number_of(value: &Val<'_>) -> i128
-    ensures { cell.Number result ≡ number_cell (shown value.now) }
+    ensures { cell.Number result ≡ number_cell (meaning_of value.now) }
 {
     match value {
-        Val::Int(number) => sized(*number),
+        Val::Int(number) => sized_number(*number),
         _ => 0,
     }
 }
 
-fn sized(number: i128) -> i128
+fn sized_number(number: i128) -> i128
     ensures { cell.Number result ≡ number_cell (Number number) }
 {
     if number.unsigned_abs() <= 18_446_744_073_709_551_616 {

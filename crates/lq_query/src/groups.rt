@@ -1,4 +1,5 @@
-ghost use Rattle.std.specs.Prelude.{◌≡◌, ℕ, ◌+◌, ◌<◌, ◌≤◌, ◌^◌, ◌∷◌, ◌++◌, [], All, Err, IfOk, None, OnErr, OnOk, IfSome, length, map, take};
+ghost use Rattle.std.specs.Prelude.{◌≡◌, ℕ, ◌+◌, ◌<◌, ◌≤◌, ◌^◌, ◌∷◌, ◌++◌, [], All, Err, IfOk};
+ghost use Rattle.std.specs.Prelude.{None, OnErr, OnOk, IfSome, length, map, take};
 ghost use Rattle.std.specs.List.{AllByRecursion, AllZip};
 ghost use Rattle.lq_output.specs.declared.error.WriteErr.TheVariants.{TooLarge};
 ghost use Rattle.lq_request.specs.Stats.{IsStat};
@@ -7,10 +8,11 @@ ghost use Rattle.lq_stats.specs.Grouped.{AreGroupsOf};
 ghost use Rattle.lq_stats.specs.Groups.{IsCellOf, shown_line};
 ghost use Rattle.lq_tables.specs.Cells.{cell_of};
 ghost use Rattle.lq_query.specs.Answer.{first_lines};
-ghost use Rattle.lq_query.specs.Counting.{Counts, counted_from, entry_of};
-ghost use Rattle.lq_query.specs.Groups.{group_lines, line_cells, stat_cell, stat_kind, stats_row, stats_spec};
-ghost use Rattle.lq_query.specs.Lines.{HasLines, IsTooLarge, seen_cells, marked};
-ghost use Rattle.lq_query.specs.Rows.{chosen, row_cells};
+ghost use Rattle.lq_query.specs.Counting.{Counts, counted_from, entry_of_ready};
+ghost use Rattle.lq_query.specs.Groups.{group_lines, line_cells, stat_cell, stat_kind, stats_row};
+ghost use Rattle.lq_query.specs.Groups.{stats_spec};
+ghost use Rattle.lq_query.specs.Lines.{HasLines, IsTooLarge, seen_cells, rows_with_marks};
+ghost use Rattle.lq_query.specs.Rows.{chosen_rows, row_cells};
 
 use crate::entry::{ReadyEntry, ready_entries};
 use crate::line::push_line;
@@ -58,10 +60,10 @@ impl Page<'_> {
         requires stats { All IsStat request.now.stats }
         ensures lines { OnOk result (HasLines writer.old writer.new (first_lines request.now.limit
             (group_lines request.now.columns request.now.stats
-            (chosen request.now.filter (map (seen_cells self.now.sight) rows.now))))) }
+            (chosen_rows request.now.filter (map (seen_cells self.now.sight) rows.now))))) }
         ensures large { result ≡ Err TooLarge → IsTooLarge writer.old (first_lines request.now.limit
             (group_lines request.now.columns request.now.stats
-            (chosen request.now.filter (map (seen_cells self.now.sight) rows.now)))) }
+            (chosen_rows request.now.filter (map (seen_cells self.now.sight) rows.now)))) }
     {
         let lines = self.groups(request, rows)?.lines()?;
         push_group_lines(writer, first_of_lines(lines.as_slice(), request.limit))
@@ -73,7 +75,7 @@ impl Page<'_> {
         requires stats { All IsStat request.now.stats }
         ensures groups { IfOk result (λ groups. AreGroupsOf groups
             (map (stats_row request.now.columns request.now.stats)
-            (chosen request.now.filter (map (seen_cells self.now.sight) rows.now)))) }
+            (chosen_rows request.now.filter (map (seen_cells self.now.sight) rows.now)))) }
         ensures spec { IfOk result
             (λ groups. groups.spec ≡ stats_spec request.now.columns request.now.stats) }
     {
@@ -93,12 +95,12 @@ impl Page<'_> {
     fn count(&self, groups: &mut Groups, tally: &mut Tally<'_>, rows: &[Row]) -> Result<(), Memory>
         requires next { groups.old.next ≡ [] }
         requires spec { groups.old.spec
-            ≡ stats_spec self.now.columns.now (map entry_of tally.old.entries.items) }
-        requires stats { All IsStat (map entry_of tally.old.entries.items) }
+            ≡ stats_spec self.now.columns.now (map entry_of_ready tally.old.entries.items) }
+        requires stats { All IsStat (map entry_of_ready tally.old.entries.items) }
         requires few { groups.old.count + length rows.now ≤ 2 ^ 40 }
         ensures { OnOk result (Counts groups.old groups.new
-            (map (stats_row self.now.columns.now (map entry_of tally.old.entries.items))
-            (chosen tally.old.filter (map (seen_cells self.now.sight) rows.now)))) }
+            (map (stats_row self.now.columns.now (map entry_of_ready tally.old.entries.items))
+            (chosen_rows tally.old.filter (map (seen_cells self.now.sight) rows.now)))) }
     {
         let mut at = 0;
         'blocks: while at < rows.len() {
@@ -118,15 +120,15 @@ impl Page<'_> {
     ) -> Result<(), Memory>
         requires next { groups.old.next ≡ [] }
         requires spec { groups.old.spec
-            ≡ stats_spec self.now.columns.now (map entry_of tally.old.entries.items) }
-        requires stats { All IsStat (map entry_of tally.old.entries.items) }
+            ≡ stats_spec self.now.columns.now (map entry_of_ready tally.old.entries.items) }
+        requires stats { All IsStat (map entry_of_ready tally.old.entries.items) }
         requires few { groups.old.count + length rows.now ≤ 2 ^ 40 }
         ensures counts { OnOk result (Counts groups.old groups.new
-            (map (stats_row self.now.columns.now (map entry_of tally.old.entries.items))
-            (chosen tally.old.filter (map (seen_cells self.now.sight) rows.now)))) }
+            (map (stats_row self.now.columns.now (map entry_of_ready tally.old.entries.items))
+            (chosen_rows tally.old.filter (map (seen_cells self.now.sight) rows.now)))) }
         ensures filter { tally.new.filter ≡ tally.old.filter }
-        ensures entries { map entry_of tally.new.entries.items
-            ≡ map entry_of tally.old.entries.items }
+        ensures entries { map entry_of_ready tally.new.entries.items
+            ≡ map entry_of_ready tally.old.entries.items }
     {
         let marks = marks_of(self.alloc, &mut tally.filter, &self.sight, rows)?;
         if !has_mark(&marks) {
@@ -140,8 +142,8 @@ impl Page<'_> {
     fn cells(&self, entries: &mut [ReadyEntry<'_>], rows: &[Row]) -> Result<Vec<StatColumn>, Memory>
         ensures cells { IfOk result (λ cells. map column_cells cells.items
             ≡ map (λ entry. map (λ row. stat_cell (seen_cells self.now.sight row) entry)
-            rows.now) (map entry_of entries.old)) }
-        ensures same { map entry_of entries.new ≡ map entry_of entries.old }
+            rows.now) (map entry_of_ready entries.old)) }
+        ensures same { map entry_of_ready entries.new ≡ map entry_of_ready entries.old }
     {
         let mut cells = Vec::with_capacity(self.alloc, entries.len())?;
         for place in 0..entries.len() {

@@ -1,8 +1,9 @@
-ghost use Rattle.std.specs.Prelude.{◌≡◌, ◌<◌, ◌+◌, ◌∷◌, ◌++◌, [], length, map, true, Err, IfOk, OnOk};
+ghost use Rattle.std.specs.Prelude.{◌≡◌, ◌<◌, ◌+◌, ◌∷◌, ◌++◌, [], length, map, true, Err, IfOk};
+ghost use Rattle.std.specs.Prelude.{OnOk};
 ghost use Rattle.lq_output.specs.declared.error.WriteErr.TheVariants.{TooLarge};
 ghost use Rattle.lq_request.specs.Reading.{ShowsCells};
 ghost use Rattle.lq_schema.specs.Names.{full_name};
-ghost use Rattle.lq_schema.specs.Value.{shown};
+ghost use Rattle.lq_schema.specs.Value.{meaning_of};
 ghost use Rattle.lq_query.specs.Answer.{column_names, line_of_names, stat_name, stat_names};
 ghost use Rattle.lq_query.specs.Lines.{AddsCells, AreTooLarge, HasLines, IsTooLarge};
 
@@ -16,9 +17,9 @@ use std::alloc::Global;
 pub fn push_line(writer: &mut Writer, front: &[Val<'_>], back: &[Val<'_>]) -> Result<(), WriteErr>
     requires { 0 < length front.now + length back.now }
     ensures lines { OnOk result (HasLines writer.old writer.new
-        ((map shown front.now ++ map shown back.now) ∷ [])) }
+        ((map meaning_of front.now ++ map meaning_of back.now) ∷ [])) }
     ensures large { result ≡ Err TooLarge → IsTooLarge writer.old
-        ((map shown front.now ++ map shown back.now) ∷ []) }
+        ((map meaning_of front.now ++ map meaning_of back.now) ∷ []) }
 {
     push_values(writer, front)?;
     push_values(writer, back)?;
@@ -27,10 +28,10 @@ pub fn push_line(writer: &mut Writer, front: &[Val<'_>], back: &[Val<'_>]) -> Re
 
 /// Adds cells to the open line.
 fn push_values(writer: &mut Writer, cells: &[Val<'_>]) -> Result<(), WriteErr>
-    ensures cells { OnOk result (AddsCells writer.old writer.new (map shown cells.now)) }
+    ensures cells { OnOk result (AddsCells writer.old writer.new (map meaning_of cells.now)) }
     ensures begun { OnOk result (0 < length cells.now → writer.new.has_cell ≡ true) }
     ensures still { OnOk result (writer.old.has_cell ≡ true → writer.new.has_cell ≡ true) }
-    ensures large { result ≡ Err TooLarge → AreTooLarge writer.old (map shown cells.now) }
+    ensures large { result ≡ Err TooLarge → AreTooLarge writer.old (map meaning_of cells.now) }
 {
     for cell in cells {
         writer.cell(cell)?;
@@ -53,7 +54,7 @@ pub fn push_names(alloc: Global, writer: &mut Writer, request: &Request) -> Resu
 
 /// The whole name of each column.
 fn names_of_columns(alloc: Global, columns: &[Col]) -> Result<Vec<Val<'static>>, Memory>
-    ensures { IfOk result (λ names. map shown names.items ≡ column_names columns.now) }
+    ensures { IfOk result (λ names. map meaning_of names.items ≡ column_names columns.now) }
 {
     let mut names = Vec::with_capacity(alloc, columns.len())?;
     for column in columns {
@@ -74,7 +75,7 @@ fn name_of(alloc: Global, column: Col) -> Result<Text, Memory>
 
 /// The names of so many statistics.
 fn names_of_stats(alloc: Global, count: usize) -> Result<Vec<Val<'static>>, Memory>
-    ensures { IfOk result (λ names. map shown names.items ≡ stat_names 1 count) }
+    ensures { IfOk result (λ names. map meaning_of names.items ≡ stat_names 1 count) }
 {
     let mut names = Vec::new(alloc);
     for place in 0..count {

@@ -1,10 +1,12 @@
-ghost use Rattle.std.specs.Prelude.{◌≡◌, ◌-◌, ◌<◌, ◌∷◌, [], ◌≤◌, length, map, take, Err, None, OnOk, IfSome};
+ghost use Rattle.std.specs.Prelude.{◌≡◌, ◌-◌, ◌<◌, ◌∷◌, [], ◌≤◌, length, map, take, Err, None};
+ghost use Rattle.std.specs.Prelude.{OnOk, IfSome};
 ghost use Rattle.std.specs.List.{list_any};
 ghost use Rattle.lq_output.specs.Writing.{AddsCell, IsTooLargeWith, with_cell};
 ghost use Rattle.lq_output.specs.declared.error.WriteErr.TheVariants.{TooLarge};
 ghost use Rattle.lq_query.specs.Answer.{first_lines};
-ghost use Rattle.lq_query.specs.Rows.{chosen, row_cells};
-ghost use Rattle.lq_query.specs.Lines.{HasLines, IsTooLarge, seen_cells, first_rows, marked};
+ghost use Rattle.lq_query.specs.Rows.{chosen_rows, row_cells};
+ghost use Rattle.lq_query.specs.Lines.{HasLines, IsTooLarge, seen_cells, first_rows};
+ghost use Rattle.lq_query.specs.Lines.{rows_with_marks};
 
 use crate::column::ShownColumn;
 use crate::selection::Selection;
@@ -44,10 +46,10 @@ impl Page<'_> {
         requires some { 0 < length request.now.columns }
         ensures lines { OnOk result (HasLines writer.old writer.new (first_lines request.now.limit
             (map (row_cells request.now.columns)
-            (chosen request.now.filter (map (seen_cells self.now.sight) rows.now))))) }
+            (chosen_rows request.now.filter (map (seen_cells self.now.sight) rows.now))))) }
         ensures large { result ≡ Err TooLarge → IsTooLarge writer.old
             (first_lines request.now.limit (map (row_cells request.now.columns)
-            (chosen request.now.filter (map (seen_cells self.now.sight) rows.now)))) }
+            (chosen_rows request.now.filter (map (seen_cells self.now.sight) rows.now)))) }
     {
         let most = most_rows(request.limit, rows.len());
         self.push_chosen(writer, &request.filter, rows, most)
@@ -65,10 +67,10 @@ impl Page<'_> {
         requires { 0 < length self.now.columns.now }
         ensures lines { OnOk result (HasLines writer.old writer.new
             (first_rows self.now.columns.now left
-            (chosen filter.now (map (seen_cells self.now.sight) rows.now)))) }
+            (chosen_rows filter.now (map (seen_cells self.now.sight) rows.now)))) }
         ensures large { result ≡ Err TooLarge → IsTooLarge writer.old
             (first_rows self.now.columns.now left
-            (chosen filter.now (map (seen_cells self.now.sight) rows.now))) }
+            (chosen_rows filter.now (map (seen_cells self.now.sight) rows.now))) }
     {
         if filter.is_everything() {
             return self.push_first(writer, rows, left);
@@ -120,10 +122,10 @@ impl Page<'_> {
         requires { 0 < length self.now.columns.now }
         ensures lines { OnOk result (HasLines writer.old writer.new
             (first_rows self.now.columns.now selection.old.left
-            (chosen selection.old.filter (map (seen_cells self.now.sight) rows.now)))) }
+            (chosen_rows selection.old.filter (map (seen_cells self.now.sight) rows.now)))) }
         ensures large { result ≡ Err TooLarge → IsTooLarge writer.old
             (first_rows self.now.columns.now selection.old.left
-            (chosen selection.old.filter (map (seen_cells self.now.sight) rows.now))) }
+            (chosen_rows selection.old.filter (map (seen_cells self.now.sight) rows.now))) }
     {
         let mut at = 0;
         'blocks: while at < rows.len() && selection.left > 0 {
@@ -144,12 +146,12 @@ impl Page<'_> {
         requires { 0 < length self.now.columns.now }
         ensures lines { OnOk result (HasLines writer.old writer.new
             (first_rows self.now.columns.now selection.old.left
-            (chosen selection.old.filter (map (seen_cells self.now.sight) rows.now)))) }
+            (chosen_rows selection.old.filter (map (seen_cells self.now.sight) rows.now)))) }
         ensures large { result ≡ Err TooLarge → IsTooLarge writer.old
             (first_rows self.now.columns.now selection.old.left
-            (chosen selection.old.filter (map (seen_cells self.now.sight) rows.now))) }
+            (chosen_rows selection.old.filter (map (seen_cells self.now.sight) rows.now))) }
         ensures left { OnOk result (selection.new.left ≡ selection.old.left
-            - length (chosen selection.old.filter
+            - length (chosen_rows selection.old.filter
             (map (seen_cells self.now.sight) rows.now))) }
         ensures same { selection.new.filter ≡ selection.old.filter }
     {
@@ -172,12 +174,12 @@ impl Page<'_> {
         requires marks { length marks.now ≡ length rows.now }
         ensures lines { OnOk result (HasLines writer.old writer.new
             (first_rows self.now.columns.now selection.old.left
-            (map (seen_cells self.now.sight) (marked marks.now rows.now)))) }
+            (map (seen_cells self.now.sight) (rows_with_marks marks.now rows.now)))) }
         ensures large { result ≡ Err TooLarge → IsTooLarge writer.old
             (first_rows self.now.columns.now selection.old.left
-            (map (seen_cells self.now.sight) (marked marks.now rows.now))) }
+            (map (seen_cells self.now.sight) (rows_with_marks marks.now rows.now))) }
         ensures left { OnOk result (selection.new.left
-            ≡ selection.old.left - length (marked marks.now rows.now)) }
+            ≡ selection.old.left - length (rows_with_marks marks.now rows.now)) }
         ensures same { selection.new.filter ≡ selection.old.filter }
     {
         for place in 0..rows.len() {

@@ -1,13 +1,17 @@
-ghost use Rattle.std.specs.Prelude.{◌≡◌, ◌<◌, ◌≤◌, [], true, All, Err, IfOk, OnOk, false, length, map};
+ghost use Rattle.std.specs.Prelude.{◌≡◌, ◌<◌, ◌≤◌, [], true, All, Err, IfOk, OnOk, false, length};
+ghost use Rattle.std.specs.Prelude.{map};
 ghost use Rattle.std.specs.Option.{option_copied};
 ghost use Rattle.lq_auth.specs.Rights.{view_of};
 ghost use Rattle.lq_output.specs.Body.{body_limit};
 ghost use Rattle.lq_output.specs.declared.error.WriteErr.TheVariants.{TooLarge};
 ghost use Rattle.lq_request.specs.Reading.{ShowsCells};
 ghost use Rattle.lq_request.specs.Stats.{IsStat};
-ghost use Rattle.lq_query.specs.Answer.{answer_of, are_too_many, first_lines, headed, large_reply, limited, line_of_names, reply_body, reply_with, shown_lines, with_names};
+ghost use Rattle.lq_query.specs.Answer.{answer_of, rows_are_too_many, first_lines};
+ghost use Rattle.lq_query.specs.Answer.{with_fixed_header, large_reply, reply_of_body};
+ghost use Rattle.lq_query.specs.Answer.{line_of_names, reply_body, reply_with, shown_lines};
+ghost use Rattle.lq_query.specs.Answer.{with_names};
 ghost use Rattle.lq_query.specs.Lines.{HasLines, IsTooLarge, rows_in, seen_cells};
-ghost use Rattle.lq_query.specs.Rows.{chosen};
+ghost use Rattle.lq_query.specs.Rows.{chosen_rows};
 ghost use Rattle.lq_tables.specs.declared.rows_err.RowsErr.TheVariants.{TooMany};
 
 use crate::column::shown_columns;
@@ -84,9 +88,9 @@ fn seen_rows<G: Ledger>(
     ensures rows { IfOk result
         (λ rows. map (seen_cells sight.now) rows ≡ rows_in sight.now request.now) }
     ensures few { IfOk result (λ rows.
-        are_too_many request.now.table (rows_in sight.now request.now) ≡ false) }
+        rows_are_too_many request.now.table (rows_in sight.now request.now) ≡ false) }
     ensures many { result ≡ Err TooMany
-        → are_too_many request.now.table (rows_in sight.now request.now) ≡ true }
+        → rows_are_too_many request.now.table (rows_in sight.now request.now) ≡ true }
 {
     let window = window_of(alloc, sight.live, request)?;
     let mut steps = Steps::<G>::new(blank);
@@ -110,7 +114,7 @@ fn rows_reply(
 ) -> Result<Reply, Memory>
     requires cells { ShowsCells request.now }
     requires stats { All IsStat request.now.stats }
-    ensures { IfOk result (λ reply. reply ≡ limited request.now.fixed16
+    ensures { IfOk result (λ reply. reply ≡ reply_of_body request.now.fixed16
         (reply_body request.now (map (seen_cells sight.now) rows.now))) }
 {
     match body(alloc, sight, request, rows) {
@@ -167,10 +171,10 @@ fn push_lines(
     requires cells { ShowsCells request.now }
     requires stats { All IsStat request.now.stats }
     ensures lines { OnOk result (HasLines writer.old writer.new (first_lines request.now.limit
-        (shown_lines request.now (chosen request.now.filter
+        (shown_lines request.now (chosen_rows request.now.filter
         (map (seen_cells sight.now) rows.now))))) }
     ensures large { result ≡ Err TooLarge → IsTooLarge writer.old (first_lines request.now.limit
-        (shown_lines request.now (chosen request.now.filter
+        (shown_lines request.now (chosen_rows request.now.filter
         (map (seen_cells sight.now) rows.now)))) }
 {
     let columns = shown_columns(alloc, request.columns.as_slice())?;
@@ -206,7 +210,8 @@ fn user_of(request: &Request) -> Option<&str>
 /// The reply with a body.
 fn whole_reply(alloc: Global, fixed16: bool, body: Items<u8>) -> Result<Reply, Memory>
     requires { length body ≤ body_limit }
-    ensures { IfOk result (λ reply. reply ≡ record { code = 200; bytes = headed fixed16 body }) }
+    ensures { IfOk result (λ reply. reply ≡ record
+        { code = 200; bytes = with_fixed_header fixed16 body }) }
 {
     let bytes = if fixed16 {
         with_header(alloc, body)?
@@ -219,7 +224,7 @@ fn whole_reply(alloc: Global, fixed16: bool, body: Items<u8>) -> Result<Reply, M
 /// A body with the line of 16 bytes before it.
 fn with_header(alloc: Global, body: Items<u8>) -> Result<Items<u8>, Memory>
     requires { length body ≤ body_limit }
-    ensures { IfOk result (λ bytes. bytes ≡ headed true body) }
+    ensures { IfOk result (λ bytes. bytes ≡ with_fixed_header true body) }
 {
     let body = body.into_vec();
     let mut bytes = Vec::with_capacity(alloc, body.len() + 16)?;

@@ -1,5 +1,5 @@
 ghost use Rattle.std.specs.Prelude.{◌≡◌, ⊤, IfOk, IfSome};
-ghost use Rattle.lq_schema.specs.Value.{Number, Words, shown};
+ghost use Rattle.lq_schema.specs.Value.{Number, Words, meaning_of};
 ghost use Rattle.lq_query.specs.Lines.{seen_cells};
 
 use crate::row_test::{
@@ -63,7 +63,7 @@ impl Scan for Sight<'_> {
     ghost cell = { λ sight row column. seen_cells sight row column };
 
     fn get(&self, alloc: Global, row: &Row, c: Col) -> Result<Val<'_>, Memory>
-        ensures { IfOk result (λ value. shown value ≡ seen_cells self.now row.now c) }
+        ensures { IfOk result (λ value. meaning_of value ≡ seen_cells self.now row.now c) }
     {
         RowCells::of(self.live, row, self.view).value(alloc, c)
     }

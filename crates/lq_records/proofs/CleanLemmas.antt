@@ -7,7 +7,7 @@ use Rattle.std.proofs.Math.Logic.{⊎_elim}
 use Rattle.std.proofs.lemmas.Bool.{cases_Bool, and_parts, false_from_ne_true}
 use Rattle.std.proofs.lemmas.List.{length-append, length-take, take-append-drop, take_at, drop_at}
 use Rattle.std.proofs.lemmas.Str.{encode_same, length-encode, len_utf8_bounds, is_utf8-from_IsUtf8, IsUtf8-from_is_utf8, IsUtf8-encode}
-use Rattle.lq_records.specs.Clean.{bytes_left, cleaned, cleaned_after, cleaned_byte, first_char, replacement}
+use Rattle.lq_records.specs.Clean.{bytes_left, text_of_bytes, cleaned_after, cleaned_byte, first_char, replacement}
 
 take_own : (n : ℕ) (bytes : List ℕ) → take (length (take n bytes)) bytes ≡ take n bytes
 take_own zero bytes = refl
@@ -90,8 +90,8 @@ chars_kept (c ∷ cs) scalars =
     ∙ ap (λ more. encode_utf8 c ++ more) (chars_kept cs each.1)
 
 -- UTF-8 stays as it is
-pub cleaned-utf8 : (bytes : List ℕ) → is_utf8 bytes ≡ true → cleaned bytes ≡ bytes
-unfolding cleaned
+pub cleaned-utf8 : (bytes : List ℕ) → is_utf8 bytes ≡ true → text_of_bytes bytes ≡ bytes
+unfolding text_of_bytes
 cleaned-utf8 bytes is =
     let utf8 : IsUtf8 bytes = IsUtf8-from_is_utf8 _ is in
     subst (λ bytes. cleaned_after 0 bytes ≡ bytes) utf8.1.1 (chars_kept utf8.0 utf8.1.0)

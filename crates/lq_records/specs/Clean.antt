@@ -1,5 +1,6 @@
 -- The text of any bytes.
-use Rattle.std.specs.Prelude.{ℕ, zero, suc, Option, Some, None, List, [], ◌∷◌, ◌++◌, find, length, take}
+use Rattle.std.specs.Prelude.{ℕ, zero, suc, Option, Some, None, List, [], ◌∷◌, ◌++◌, find, length}
+use Rattle.std.specs.Prelude.{take}
 use Rattle.std.specs.Char.{encode_utf8}
 use Rattle.std.specs.Str.{is_utf8}
 
@@ -31,5 +32,5 @@ cleaned_after zero (byte ∷ bytes) =
     cleaned_byte char byte ++ cleaned_after (bytes_left char) bytes
 
 -- the text of bytes
-unfoldable pub cleaned : List ℕ → List ℕ
-cleaned bytes = cleaned_after 0 bytes
+unfoldable pub text_of_bytes : List ℕ → List ℕ
+text_of_bytes bytes = cleaned_after 0 bytes

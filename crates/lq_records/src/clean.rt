@@ -1,7 +1,7 @@
 ghost use Rattle.std.specs.Prelude.{◌≡◌, ◌∷◌, [], drop, find, take, IfOk};
 ghost use Rattle.std.specs.Option.{option_copied};
 ghost use Rattle.std.specs.Str.{is_utf8};
-ghost use Rattle.lq_records.specs.Clean.{cleaned, first_char};
+ghost use Rattle.lq_records.specs.Clean.{text_of_bytes, first_char};
 
 use crate::Memory;
 use crate::text::Text;
@@ -11,7 +11,7 @@ use std::str;
 /// The text of any bytes: each valid character is kept, and each byte at which none begins becomes
 /// U+FFFD. The only error is that memory runs out.
 pub fn clean_text(alloc: Global, b: &[u8]) -> Result<Text, Memory>
-    ensures { IfOk result (λ text. text ≡ cleaned b.now) }
+    ensures { IfOk result (λ text. text ≡ text_of_bytes b.now) }
 {
     match str::from_utf8(b) {
         Ok(text) => Text::new(alloc, text),
@@ -20,9 +20,9 @@ pub fn clean_text(alloc: Global, b: &[u8]) -> Result<Text, Memory>
 }
 
 /// The same, character by character.
-#[tactic(auto, unfolding(crate::specs::Clean::cleaned))]
+#[tactic(auto, unfolding(crate::specs::Clean::text_of_bytes))]
 fn clean_chars(alloc: Global, b: &[u8]) -> Result<Text, Memory>
-    ensures { IfOk result (λ text. text ≡ cleaned b.now) }
+    ensures { IfOk result (λ text. text ≡ text_of_bytes b.now) }
 {
     let mut whole = String::new(alloc);
     let mut rest = b;

@@ -1,7 +1,9 @@
 ghost use Rattle.std.specs.Prelude.{◌≡◌, ◌<◌, ◌^◌, ◌↔◌, ℕ, List, [], length, map, IfSome, IsTrue};
 ghost use Rattle.std.specs.List.{position, slice_get};
 ghost use Rattle.std.specs.Option.{option_copied, option_map};
-ghost use Rattle.lq_records.specs.Named.{has_name, contact_group_named, contact_named, host_group_named, host_named, service_group_named, service_named};
+ghost use Rattle.lq_records.specs.Named.{has_name, contact_group_named, contact_named};
+ghost use Rattle.lq_records.specs.Named.{host_group_named, host_named, service_group_named};
+ghost use Rattle.lq_records.specs.Named.{service_named};
 
 use crate::base::{Contact, ContactGroup, Host, HostGroup, Service, ServiceGroup};
 use crate::ids::{ContactGroupId, ContactId, HostGroupId, HostId, ServiceGroupId, ServiceId};

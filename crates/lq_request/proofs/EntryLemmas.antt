@@ -4,17 +4,17 @@ use Rattle.std.proofs.lemmas.List.{reverse-append}
 use Rattle.lq_filter.specs.Trees.{height, tree_count}
 use Rattle.lq_filter.specs.declared.header.Header.{Header}
 use Rattle.lq_filter.specs.declared.header.Header.TheVariants as header
-use Rattle.lq_request.specs.Stats.{counted, entry_of}
+use Rattle.lq_request.specs.Stats.{headers_of_counts, entry_of_draft}
 use Rattle.lq_request.specs.declared.entry.StatDraft.{StatDraft}
 use Rattle.lq_request.specs.declared.entry.StatDraft.TheVariants as draft
 use Rattle.lq_request.specs.declared.entry.StatEntry.{StatEntry}
 
 -- an entry that is taken from the front and added behind those before it
 pub one_finished : (stats more : List StatEntry) (rest left : List StatDraft) (entry : StatDraft) (last : StatEntry) (all : List StatEntry)
-    → more ≡ stats ++ last ∷ [] → last ≡ entry_of entry → rest ≡ entry ∷ left → stats ++ map entry_of rest ≡ all → more ++ map entry_of left ≡ all
+    → more ≡ stats ++ last ∷ [] → last ≡ entry_of_draft entry → rest ≡ entry ∷ left → stats ++ map entry_of_draft rest ≡ all → more ++ map entry_of_draft left ≡ all
 one_finished stats more rest left entry last all pushed is taken before =
-    ap (λ list. list ++ map entry_of left) pushed ∙ append_assoc stats (last ∷ []) (map entry_of left)
-    ∙ ap (λ first. stats ++ first ∷ map entry_of left) is ∙ ap (λ list. stats ++ map entry_of list) (sym taken) ∙ before
+    ap (λ list. list ++ map entry_of_draft left) pushed ∙ append_assoc stats (last ∷ []) (map entry_of_draft left)
+    ∙ ap (λ first. stats ++ first ∷ map entry_of_draft left) is ∙ ap (λ list. stats ++ map entry_of_draft list) (sym taken) ∙ before
 
 -- ---- joined entries
 
@@ -25,11 +25,11 @@ behind headers stack (Some later) = ap Some (append_assoc headers stack later)
 
 -- the headers of an entry that is taken from the front stand behind those before it
 pub one_counted : (headers more stack : List Header) (rest left : List StatDraft) (all : Option (List Header))
-    → more ≡ headers ++ stack → rest ≡ draft.Count stack ∷ left → option_map (λ l. headers ++ l) (counted rest) ≡ all
-    → option_map (λ l. more ++ l) (counted left) ≡ all
+    → more ≡ headers ++ stack → rest ≡ draft.Count stack ∷ left → option_map (λ l. headers ++ l) (headers_of_counts rest) ≡ all
+    → option_map (λ l. more ++ l) (headers_of_counts left) ≡ all
 one_counted headers more stack rest left all appended taken before =
-    ap (λ list. option_map (λ l. list ++ l) (counted left)) appended ∙ behind headers stack (counted left)
-    ∙ ap (λ list. option_map (λ l. headers ++ l) (counted list)) (sym taken) ∙ before
+    ap (λ list. option_map (λ l. list ++ l) (headers_of_counts left)) appended ∙ behind headers stack (headers_of_counts left)
+    ∙ ap (λ list. option_map (λ l. headers ++ l) (headers_of_counts list)) (sym taken) ∙ before
 
 last_first : (headers : List Header) (last : Header) → height (headers ++ last ∷ []) ≡ tree_count (last ∷ reverse headers)
 last_first headers last = ap tree_count (reverse-append headers (last ∷ []))

@@ -7,7 +7,7 @@ use Rattle.lq_filter.specs.declared.header.Header.TheVariants as header
 use Rattle.lq_filter.specs.declared.header.Join.{Join}
 use Rattle.lq_filter.specs.declared.read.Test.{Test}
 use Rattle.lq_request.specs.Filters.{AreWhole, IsFilter}
-use Rattle.lq_request.specs.Window.{filter_time, headers_of, is_tested, tested}
+use Rattle.lq_request.specs.Window.{filter_time, headers_of, is_tested, row_headers}
 use Rattle.lq_request.proofs.EntryLemmas.{height_joined, height_negated}
 
 -- ---- how many truths there are
@@ -104,17 +104,17 @@ pub one_more : (headers more first : List Header) (rest : List (List Header)) (a
 one_more headers more first rest all appended before =
     ap (λ list. list ++ headers_of rest) appended ∙ append_assoc headers first (headers_of rest) ∙ before
 
-tested_first : (first : List Header) (rest : List (List Header)) → is_tested first ≡ true → tested (first ∷ rest) ≡ first ++ tested rest
+tested_first : (first : List Header) (rest : List (List Header)) → is_tested first ≡ true → row_headers (first ∷ rest) ≡ first ++ row_headers rest
 tested_first first rest is = rw is refl
 
-tested_rest : (first : List Header) (rest : List (List Header)) → is_tested first ≡ false → tested (first ∷ rest) ≡ tested rest
+tested_rest : (first : List Header) (rest : List (List Header)) → is_tested first ≡ false → row_headers (first ∷ rest) ≡ row_headers rest
 tested_rest first rest is = rw is refl
 
 pub one_tested : (headers more first : List Header) (rest : List (List Header)) (all : List Header) → is_tested first ≡ true → more ≡ headers ++ first
-    → headers ++ tested (first ∷ rest) ≡ all → more ++ tested rest ≡ all
+    → headers ++ row_headers (first ∷ rest) ≡ all → more ++ row_headers rest ≡ all
 one_tested headers more first rest all is appended before =
-    ap (λ list. list ++ tested rest) appended ∙ append_assoc headers first (tested rest) ∙ ap (λ list. headers ++ list) (sym (tested_first first rest is)) ∙ before
+    ap (λ list. list ++ row_headers rest) appended ∙ append_assoc headers first (row_headers rest) ∙ ap (λ list. headers ++ list) (sym (tested_first first rest is)) ∙ before
 
 pub one_untested : (headers first : List Header) (rest : List (List Header)) (all : List Header) → is_tested first ≡ false
-    → headers ++ tested (first ∷ rest) ≡ all → headers ++ tested rest ≡ all
+    → headers ++ row_headers (first ∷ rest) ≡ all → headers ++ row_headers rest ≡ all
 one_untested headers first rest all is before = ap (λ list. headers ++ list) (sym (tested_rest first rest is)) ∙ before

@@ -4,7 +4,7 @@ use Rattle.std.proofs.lemmas.Bool.{cases_Bool, cases_lt}
 use Rattle.std.proofs.lemmas.List.{drop-append-le, take-append-le}
 use Rattle.std.proofs.lemmas.Grind.{common_steps}
 use Rattle.std.proofs.Math.Logic.{⊎_elim}
-use Rattle.lq_request.specs.Messages.{message_limit, Message, message_of, with_later, first_piece, messages, messages_up_to, needed, piece_of, rest_after, whole, whole_messages, IsCutOff, IsFirst, IsInOrder, IsLast, IsNext, Piece, Query, Command, TooLong, Empty, More}
+use Rattle.lq_request.specs.Messages.{message_limit, Message, message_of, with_later, first_piece, messages, messages_up_to, needed_bytes, piece_of, rest_after, whole, whole_messages, IsCutOff, IsFirst, IsInOrder, IsLast, IsNext, Piece, Query, Command, TooLong, Empty, More}
 use Rattle.lq_request.specs.declared.extent.MessageKind.{MessageKind}
 use Rattle.lq_request.specs.declared.extent.MessageKind.TheVariants as message
 use Rattle.lq_request.proofs.ListLemmas.{front_more}
@@ -152,9 +152,9 @@ ended_behind bytes more is small =
 
 -- the bytes that show an ended message are held
 size_held : (ended : Bool) (held : List ℕ) (piece : Piece) → IsFirst piece ended held → (window_message held).ended ≡ true → (window_message held).size ≤ length held
-unfolding needed
+unfolding needed_bytes
 size_held ended held piece first is =
-    let read : needed held ≤ length held = subst (λ b. needed b ≤ length held) (append-nil held) (first.read [] (λ _. refl)) in
+    let read : needed_bytes held ≤ length held = subst (λ b. needed_bytes b ≤ length held) (append-nil held) (first.read [] (λ _. refl)) in
     omega (arith, read, needed_ended held (window_message held) is)
 
 cut_off : (ended : Bool) (held : List ℕ) (piece : Piece) → IsMessage piece → piece ≡ first_piece ended held → IsFirst piece ended held → IsCutOff ended held piece (rest_after piece held)

@@ -1,7 +1,7 @@
 -- The first piece, by the message at the front.
 use Rattle.std.proofs.Common.{◌≡◌, ℕ, ◌+◌, ◌-◌, ◌<◌, ◌≤◌, nat_lt, Bool, true, false, List, [], ◌++◌, length, take, IsTrue, refl, sym, ap, ◌∙◌, arith, append-nil, length-append}
 use Rattle.std.proofs.lemmas.List.{take-append-le}
-use Rattle.lq_request.specs.Messages.{message_limit, Message, message_of, piece_of, needed_for, first_piece, needed, IsFirst, Piece, TooLong, More, whole}
+use Rattle.lq_request.specs.Messages.{message_limit, Message, message_of, piece_of, needed_for, first_piece, needed_bytes, IsFirst, Piece, TooLong, More, whole}
 use Rattle.lq_request.proofs.ListLemmas.{front_more}
 use Rattle.lq_request.proofs.MessageLemmas.{message_stable}
 
@@ -37,34 +37,34 @@ window_message bytes = message_of (take message_limit bytes)
 
 -- a message that has ended
 pub first_ended : (ended : Bool) (bytes : List ℕ) → (window_message bytes).ended ≡ true → (window_message bytes).size ≤ length bytes → IsFirst (whole (window_message bytes).kind (window_message bytes).text) ended bytes
-unfolding first_piece needed
+unfolding first_piece needed_bytes
 first_ended ended bytes is small =
     let same : (more : List ℕ) → window_message (bytes ++ more) ≡ window_message bytes = λ more.
     ap message_of (front_more message_limit bytes more) ∙ message_stable (take message_limit bytes) (take (message_limit - length bytes) more) is in
     record {
       first = λ more closed. sym (ap (piece_of true (bytes ++ more)) (same more) ∙ piece_ended true (bytes ++ more) (window_message bytes) is);
-      read = λ more closed. let size : needed (bytes ++ more) ≡ (window_message bytes).size = ap (needed_for (bytes ++ more)) (same more) ∙ needed_ended (bytes ++ more) (window_message bytes) is in
+      read = λ more closed. let size : needed_bytes (bytes ++ more) ≡ (window_message bytes).size = ap (needed_for (bytes ++ more)) (same more) ∙ needed_ended (bytes ++ more) (window_message bytes) is in
           omega (arith, size, small);
     }
 
 -- a message that is too long
 pub first_long : (ended : Bool) (bytes : List ℕ) → (window_message bytes).ended ≡ false → message_limit < length bytes → IsFirst (TooLong (take message_limit bytes)) ended bytes
-unfolding first_piece needed
+unfolding first_piece needed_bytes
 first_long ended bytes is long =
     let front : (more : List ℕ) → take message_limit (bytes ++ more) ≡ take message_limit bytes = λ more. take-append-le message_limit bytes more (omega arith) in
     let longer : (more : List ℕ) → message_limit < length (bytes ++ more) = λ more. omega (arith, length-append bytes more) in
     record {
       first = λ more closed. sym (ap (λ w. piece_of true (bytes ++ more) (message_of w)) (front more) ∙ piece_long true (bytes ++ more) (window_message bytes) is (longer more) ∙ ap TooLong (front more));
-      read = λ more closed. let size : needed (bytes ++ more) ≡ message_limit + 1 = ap (λ w. needed_for (bytes ++ more) (message_of w)) (front more) ∙ needed_long (bytes ++ more) (window_message bytes) is (longer more) in
+      read = λ more closed. let size : needed_bytes (bytes ++ more) ≡ message_limit + 1 = ap (λ w. needed_for (bytes ++ more) (message_of w)) (front more) ∙ needed_long (bytes ++ more) (window_message bytes) is (longer more) in
           omega (arith, size, long);
     }
 
 -- the last piece of an input
 pub first_last : (bytes : List ℕ) (piece : Piece) → (window_message bytes).ended ≡ false → length bytes ≤ message_limit → first_piece true bytes ≡ piece → IsFirst piece true bytes
-unfolding first_piece needed
+unfolding first_piece needed_bytes
 first_last bytes piece is short shown =
     let all : (more : List ℕ) → (IsTrue true → more ≡ []) → bytes ++ more ≡ bytes = λ more closed. ap (λ rest. bytes ++ rest) (closed refl) ∙ append-nil bytes in
     record {
       first = λ more closed. sym (ap (first_piece true) (all more closed) ∙ shown);
-      read = λ more closed. let size : needed (bytes ++ more) ≡ length bytes = ap needed (all more closed) ∙ needed_last bytes (window_message bytes) is short in omega (arith, size);
+      read = λ more closed. let size : needed_bytes (bytes ++ more) ≡ length bytes = ap needed_bytes (all more closed) ∙ needed_last bytes (window_message bytes) is short in omega (arith, size);
     }

@@ -21,7 +21,7 @@ use Rattle.lq_schema.specs.declared.columns.Table.TheVariants as table
 use Rattle.lq_schema.specs.declared.line.LineColumn.TheVariants as line
 use Rattle.lq_schema.specs.declared.slice.SliceColumn.TheVariants as slice
 use Rattle.lq_filter.specs.Tests.{is_met}
-use Rattle.lq_filter.specs.Trees.{holds, joined, truth_on, truths}
+use Rattle.lq_filter.specs.Trees.{holds, some_or_all, truth_on, truths}
 use Rattle.lq_filter.specs.declared.check.Check.{Check}
 use Rattle.lq_filter.specs.declared.check.Comparison.TheVariants as by
 use Rattle.lq_filter.specs.declared.check.Property.{Property}
@@ -31,7 +31,7 @@ use Rattle.lq_filter.specs.declared.header.Header.TheVariants as header
 use Rattle.lq_filter.specs.declared.read.Test.{Test}
 use Rattle.lq_request.specs.Filters.{AreWhole, IsFilter}
 use Rattle.lq_request.specs.Reading.{line_time}
-use Rattle.lq_request.specs.Window.{bounds_of, bounds_on, bounds_said, filter_bounds, filter_time, headers_of, history_interval, interval_of, is_tested, own_time, property_time, second_at, second_after, tested, tests_rows, tightest}
+use Rattle.lq_request.specs.Window.{bounds_of, bounds_on, bounds_said, filter_bounds, filter_time, headers_of, history_interval, interval_of, is_tested, own_time, property_time, second_at, next_bound, row_headers, tests_rows, tightest}
 use Rattle.lq_request.specs.declared.time.Interval.{Interval}
 use Rattle.lq_request.specs.declared.time.TimeBounds.{TimeBounds}
 use Rattle.lq_request.specs.declared.time.TimeTest.{TimeTest}
@@ -84,7 +84,7 @@ second_at_within : (number : ℤ) → second_at number ≤ 1000000000000
 second_at_within (pos number) = omega arith
 second_at_within (negsuc number) = omega arith
 
-second_after_within : (number : ℤ) → second_after number ≤ 1000000000000
+second_after_within : (number : ℤ) → next_bound number ≤ 1000000000000
 second_after_within (pos number) = omega arith
 second_after_within (negsuc number) = omega arith
 
@@ -197,7 +197,7 @@ both_hold : (truth : Test → Bool) (first second : List Header) (n m : ℕ) →
     → (holds truth first ≡ true) × (holds truth second ≡ true)
 both_hold truth first second n m one two met =
     let parted : holds truth (first ++ second) ≡ (holds truth second && holds truth first)
-    = ap (joined false) (both_trees first second n m one two truth) ∙ list_all-append (λ truth. truth) (truths truth (reverse second)) (truths truth (reverse first)) in
+    = ap (some_or_all false) (both_trees first second n m one two truth) ∙ list_all-append (λ truth. truth) (truths truth (reverse second)) (truths truth (reverse first)) in
     let both : (holds truth second ≡ true) × (holds truth first ≡ true) = both_true (holds truth second) (holds truth first) (sym parted ∙ met) in
     (both.1, both.0)
 
@@ -260,7 +260,7 @@ module _ (row : Col → Value) (second : ℕ) (early : second < 1000000000000) (
       let first = first_allows headers (filter is_tested filters) (is_tested headers) refl all in
       (first.0, kept_allows filters first.1)
 
-  filters_allow : (filters : List (List Header)) → AllByRecursion IsFilter filters → holds (truth_on row) (tested filters) ≡ true → Allows second (bounds_of table.Log filters)
+  filters_allow : (filters : List (List Header)) → AllByRecursion IsFilter filters → holds (truth_on row) (row_headers filters) ≡ true → Allows second (bounds_of table.Log filters)
   filters_allow filters whole met =
       tightest_bounded (λ from. from ≤ second) (λ until. second < until) (λ a b low high. omega arith) (λ a b low high. omega arith)
       (filter_map (filter_bounds table.Log) filters)
@@ -275,7 +275,7 @@ or_until second None early allows = early
 or_until second (Some until) early allows = allows
 
 pub asked_lines : (t : Table) (filters : List (List Header)) (interval : Interval) → All IsFilter filters → interval_of t (bounds_of t filters) ≡ Ok interval
-    → (row : Col → Value) (second : ℕ) → t ≡ table.Log → row line_time ≡ Number (pos second) → second < 1000000000000 → holds (truth_on row) (tested filters) ≡ true
+    → (row : Col → Value) (second : ℕ) → t ≡ table.Log → row line_time ≡ Number (pos second) → second < 1000000000000 → holds (truth_on row) (row_headers filters) ≡ true
     → (interval.from ≤ second) × IfSome interval.until (λ until. second < until)
 asked_lines t filters interval whole is row second log at early met =
     let bounds : TimeBounds = bounds_of table.Log filters in

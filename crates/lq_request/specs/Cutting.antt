@@ -4,7 +4,8 @@ use Rattle.lq_request.specs.declared.cut.Cutting.{Cutting}
 use Rattle.lq_request.specs.declared.cut.Cutting.TheVariants as cutting
 use Rattle.lq_request.specs.declared.cut.Found.{Found}
 use Rattle.lq_request.specs.declared.cut.Found.TheVariants as found
-use Rattle.lq_request.specs.Messages.{message_limit, Piece, Query, Command, TooLong, Empty, More, whole, rest_after, IsNext}
+use Rattle.lq_request.specs.Messages.{message_limit, Piece, Query, Command, TooLong, Empty, More}
+use Rattle.lq_request.specs.Messages.{whole, rest_after, IsNext}
 
 -- the piece, without where it lies in memory
 abbrev pub lent_piece : Cutting → Piece

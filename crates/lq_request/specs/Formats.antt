@@ -1,6 +1,7 @@
 -- What the lines `OutputFormat` and `Separators` say of the body of a reply.
-use Rattle.std.specs.Prelude.{ℕ, nat_lt, Option, Some, None, ok_or, Result, List, [], ◌∷◌, bytes_eq, codes, map, if◌then◌else◌}
-use Rattle.lq_text.specs.Blanks.{trimmed, words_of}
+use Rattle.std.specs.Prelude.{ℕ, nat_lt, Option, Some, None, ok_or, Result, List, [], ◌∷◌, bytes_eq}
+use Rattle.std.specs.Prelude.{codes, map, if◌then◌else◌}
+use Rattle.lq_text.specs.Blanks.{without_blanks, words_of}
 use Rattle.lq_records.specs.declared.format.Format.{Format}
 use Rattle.lq_records.specs.declared.format.Format.TheVariants as format
 use Rattle.lq_records.specs.declared.format.Separators.{Separators}
@@ -19,7 +20,7 @@ format_of word =
 
 -- a format is one of three words, with or without blanks around it
 abbrev pub format_value : List ℕ → List ℕ → Result Format Reason
-format_value name value = ok_or (format_of (trimmed value)) (reason.BadValue name)
+format_value name value = ok_or (format_of (without_blanks value)) (reason.BadValue name)
 
 -- ---- `Separators`
 

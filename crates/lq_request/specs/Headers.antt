@@ -1,9 +1,11 @@
 -- What the header lines of a query say, or why one of them is refused.
-use Rattle.std.specs.Prelude.{ℕ, ◌+◌, ◌==◌, nat_lt, length, Bool, true, false, not, Option, Some, None, is_none, ok_or}
-use Rattle.std.specs.Prelude.{Result, Ok, Err, List, [], ◌∷◌, ◌++◌, take, drop, find, bytes_eq, codes, position, if◌then◌else◌}
+use Rattle.std.specs.Prelude.{ℕ, ◌+◌, ◌==◌, nat_lt, length, Bool, true, false, not, Option, Some}
+use Rattle.std.specs.Prelude.{None, is_none, ok_or}
+use Rattle.std.specs.Prelude.{Result, Ok, Err, List, [], ◌∷◌, ◌++◌, take, drop, find, bytes_eq}
+use Rattle.std.specs.Prelude.{codes, position, if◌then◌else◌}
 use Rattle.std.specs.List.{filter_map}
 use Rattle.std.specs.Str.{is_utf8}
-use Rattle.lq_text.specs.Blanks.{trimmed, words_of}
+use Rattle.lq_text.specs.Blanks.{without_blanks, words_of}
 use Rattle.lq_schema.specs.Schema.{column_of}
 use Rattle.lq_schema.specs.declared.columns.Col.{Col}
 use Rattle.lq_schema.specs.declared.columns.Table.{Table}
@@ -164,7 +166,7 @@ with_header name value draft =
       request = record draft.request { separators = separators };
     })
     else if bytes_eq name (codes "AuthUser")
-    then Ok (record draft { request = record draft.request { user = Some (trimmed value) } })
+    then Ok (record draft { request = record draft.request { user = Some (without_blanks value) } })
     else if bytes_eq name (codes "ResponseHeader")
     then draft_by (switch (codes "fixed16") name value) (λ on. draft)
     else if bytes_eq name (codes "KeepAlive")

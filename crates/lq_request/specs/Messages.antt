@@ -1,5 +1,7 @@
 -- How the bytes of a connection fall into messages.
-use Rattle.std.specs.Prelude.{◌≡◌, ◌≢◌, ℕ, zero, suc, ◌+◌, ◌-◌, ◌<◌, ◌≤◌, ◌==◌, nat_lt, Bool, true, false, not, ◌&&◌, List, [], ◌∷◌, ◌++◌, length, take, drop, bytes_eq, codes, slice_index, IsTrue, if◌then◌else◌}
+use Rattle.std.specs.Prelude.{◌≡◌, ◌≢◌, ℕ, zero, suc, ◌+◌, ◌-◌, ◌<◌, ◌≤◌, ◌==◌, nat_lt, Bool, true}
+use Rattle.std.specs.Prelude.{false, not, ◌&&◌, List, [], ◌∷◌, ◌++◌, length, take, drop, bytes_eq}
+use Rattle.std.specs.Prelude.{codes, slice_index, IsTrue, if◌then◌else◌}
 use Rattle.std.specs.List.{concat, take_while}
 use Rattle.lq_text.specs.Blanks.{is_blank, without_front}
 use Rattle.lq_text.specs.Lines.{whole_lines, line_text}
@@ -164,15 +166,15 @@ needed_for input first =
     else if nat_lt message_limit (length input) then message_limit + 1
     else length input
 
-unfoldable pub needed : List ℕ → ℕ
-needed input = needed_for input (message_of (take message_limit input))
+unfoldable pub needed_bytes : List ℕ → ℕ
+needed_bytes input = needed_for input (message_of (take message_limit input))
 
 -- The piece is the first one of the input, however it goes on; after `ended` it doesn't go on.
 pub record IsFirst (piece : Piece) (ended : Bool) (held : List ℕ) : Type 0 where
   pub first : (rest : List ℕ) → (IsTrue ended → rest ≡ [])
       → piece ≡ first_piece true (held ++ rest)
   pub read : (rest : List ℕ) → (IsTrue ended → rest ≡ [])
-      → needed (held ++ rest) ≤ length held
+      → needed_bytes (held ++ rest) ≤ length held
 
 -- The piece stands first in the bytes that are held. It is `More` only where no message is whole,
 -- and then there is room for another byte.

@@ -1,5 +1,6 @@
 -- What reading a message gives.
-use Rattle.std.specs.Prelude.{◌≡◌, ◌<◌, ◌≤◌, ◌+◌, ℕ, pos, true, None, IfSome, Result, Ok, Err, [], length}
+use Rattle.std.specs.Prelude.{◌≡◌, ◌<◌, ◌≤◌, ◌+◌, ℕ, pos, true, None, IfSome, Result, Ok, Err, []}
+use Rattle.std.specs.Prelude.{length}
 use Rattle.lq_schema.specs.Value.{Value, Number}
 use Rattle.lq_schema.specs.declared.columns.Col.{Col}
 use Rattle.lq_schema.specs.declared.columns.OwnColumn.TheVariants as own
@@ -16,11 +17,11 @@ use Rattle.lq_request.specs.declared.request.ReadErr.{ReadErr}
 use Rattle.lq_request.specs.declared.request.ReadErr.TheVariants as error
 
 -- what was read, or the refusal and its style, is what the definition says; out of memory is free
-abbrev pub Reads : Result Request ReadErr → Result Request Refused → Type 0
-Reads (Ok request) asked = asked ≡ Ok request
-Reads (Err (error.Refused refusal fixed16 keep)) asked =
+abbrev pub ReadsRequest : Result Request ReadErr → Result Request Refused → Type 0
+ReadsRequest (Ok request) asked = asked ≡ Ok request
+ReadsRequest (Err (error.Refused refusal fixed16 keep)) asked =
     asked ≡ Err (record { refusal = refusal; style = record { fixed16 = fixed16; keep = keep } })
-Reads (Err error.Memory) asked = Unit {0}
+ReadsRequest (Err error.Memory) asked = Unit {0}
 
 -- a refusal's code has three digits
 abbrev pub HasCode : ReadErr → Type 0

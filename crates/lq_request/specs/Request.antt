@@ -1,5 +1,7 @@
 -- What a message asks, or why it is refused.
-use Rattle.std.specs.Prelude.{ℕ, ◌==◌, ◌&&◌, Bool, false, length, map, Option, Some, None, unwrap_or, Result, Ok, Err, List, [], ◌∷◌, bytes_eq, codes, if◌then◌else◌}
+use Rattle.std.specs.Prelude.{ℕ, ◌==◌, ◌&&◌, Bool, false, length, map, Option, Some, None}
+use Rattle.std.specs.Prelude.{unwrap_or, Result, Ok, Err, List, [], ◌∷◌, bytes_eq, codes}
+use Rattle.std.specs.Prelude.{if◌then◌else◌}
 use Rattle.std.specs.Str.{is_utf8}
 use Rattle.lq_text.specs.Lines.{lines_of}
 use Rattle.lq_text.specs.Blanks.{words_of}
@@ -16,9 +18,9 @@ use Rattle.lq_request.specs.declared.reason.Reason.{Reason}
 use Rattle.lq_request.specs.declared.reason.Reason.TheVariants as reason
 use Rattle.lq_request.specs.Headers.{header_lines}
 use Rattle.lq_request.specs.Reasons.{refusal_of}
-use Rattle.lq_request.specs.Stats.{entry_of}
+use Rattle.lq_request.specs.Stats.{entry_of_draft}
 use Rattle.lq_request.specs.Style.{style_of}
-use Rattle.lq_request.specs.Window.{bounds_of, interval_of, tested, whole_interval}
+use Rattle.lq_request.specs.Window.{bounds_of, interval_of, row_headers, whole_interval}
 use Rattle.lq_request.specs.declared.time.Interval.{Interval}
 
 -- ---- the first line
@@ -83,8 +85,8 @@ abbrev pub finished_in : Draft → Interval → Request
 finished_in draft interval = record draft.request {
   columns = if shows_all draft then columns_of draft.request.table else draft.request.columns;
   head = unwrap_or draft.names (shows_all draft);
-  filter = tested draft.filters;
-  stats = map entry_of draft.stats;
+  filter = row_headers draft.filters;
+  stats = map entry_of_draft draft.stats;
   from = interval.from;
   until = interval.until;
   names = no_names;
@@ -95,14 +97,14 @@ finished_by draft (Err fault) = Err fault
 finished_by draft (Ok interval) = Ok (finished_in draft interval)
 
 -- the request of a query that is read whole, or why it is refused after all
-abbrev pub finished : Draft → Result Request Reason
-finished draft =
+abbrev pub request_of_draft : Draft → Result Request Reason
+request_of_draft draft =
     finished_by draft
     (interval_of draft.request.table (bounds_of draft.request.table draft.filters))
 
 abbrev pub asked_headers : Result Draft Reason → Result Request Reason
 asked_headers (Err fault) = Err fault
-asked_headers (Ok draft) = finished draft
+asked_headers (Ok draft) = request_of_draft draft
 
 abbrev pub asked_table : Style → List (List ℕ) → Result Table Reason → Result Request Reason
 asked_table style headers (Err fault) = Err fault
@@ -127,5 +129,5 @@ with_style style (Ok request) = Ok request
 with_style style (Err fault) = Err (record { refusal = refusal_of fault; style = style })
 
 -- what a message asks, or its refusal; both have the message's style
-unfoldable pub asked : List ℕ → Result Request Refused
-asked message = with_style (style_of message) (asked_in (style_of message) message)
+unfoldable pub request_in : List ℕ → Result Request Refused
+request_in message = with_style (style_of message) (asked_in (style_of message) message)

@@ -1,6 +1,7 @@
 -- What the lines `Stats`, `StatsAnd`, `StatsOr` and `StatsNegate` add to a query, or why one of
 -- them is refused.
-use Rattle.std.specs.Prelude.{ℕ, ◌≡◌, ◌≢◌, ◌&&◌, nat_le, nat_lt, Bool, Option, Some, None, ok_or, option_map, Result, Ok, Err}
+use Rattle.std.specs.Prelude.{ℕ, ◌≡◌, ◌≢◌, ◌&&◌, nat_le, nat_lt, Bool, Option, Some, None, ok_or}
+use Rattle.std.specs.Prelude.{option_map, Result, Ok, Err}
 use Rattle.std.specs.Prelude.{List, [], ◌∷◌, ◌++◌, length, bytes_eq, codes, if◌then◌else◌}
 use Rattle.lq_filter.specs.Trees.{height}
 use Rattle.lq_filter.specs.declared.header.Header.{Header}
@@ -26,9 +27,9 @@ use Rattle.lq_request.specs.Filters.{earlier, latest}
 -- ---- entries
 
 -- the entry of a query that is read whole: the headers are those of its filter
-abbrev pub entry_of : StatDraft → StatEntry
-entry_of (draft.Count headers) = entry.Count headers
-entry_of (draft.Over kind column) = entry.Over kind column
+abbrev pub entry_of_draft : StatDraft → StatEntry
+entry_of_draft (draft.Count headers) = entry.Count headers
+entry_of_draft (draft.Over kind column) = entry.Over kind column
 
 -- what is asked of a column is no count, and the column has numbers
 abbrev pub IsAggregate : StatKind → Col → Type 0
@@ -40,7 +41,7 @@ IsStat (entry.Count filter) = height filter ≡ 1
 IsStat (entry.Over kind column) = IsAggregate kind column
 
 abbrev pub IsEntry : StatDraft → Type 0
-IsEntry entry = IsStat (entry_of entry)
+IsEntry entry = IsStat (entry_of_draft entry)
 
 -- ---- the value of a `Stats` line
 
@@ -57,14 +58,14 @@ aggregate_of word =
     else None
 
 -- the statistics that give an aggregate, None for those that aren't supported
-abbrev pub kind_of : Aggregate → Option StatKind
-kind_of aggregate.Sum = Some stat_kind.Sum
-kind_of aggregate.Min = Some stat_kind.Min
-kind_of aggregate.Max = Some stat_kind.Max
-kind_of aggregate.Avg = Some stat_kind.Avg
-kind_of aggregate.Std = None
-kind_of aggregate.SumInv = None
-kind_of aggregate.AvgInv = None
+abbrev pub stat_kind_of : Aggregate → Option StatKind
+stat_kind_of aggregate.Sum = Some stat_kind.Sum
+stat_kind_of aggregate.Min = Some stat_kind.Min
+stat_kind_of aggregate.Max = Some stat_kind.Max
+stat_kind_of aggregate.Avg = Some stat_kind.Avg
+stat_kind_of aggregate.Std = None
+stat_kind_of aggregate.SumInv = None
+stat_kind_of aggregate.AvgInv = None
 
 abbrev pub first_aggregate : List (List ℕ) → Option Aggregate
 first_aggregate [] = None
@@ -94,23 +95,23 @@ aggregate_over table (Some kind) word name =
 abbrev pub aggregate_entry :
     Table → List ℕ → Aggregate → List (List ℕ) → Result StatDraft Reason
 aggregate_entry table header aggregate (word ∷ name ∷ []) =
-    aggregate_over table (kind_of aggregate) word name
+    aggregate_over table (stat_kind_of aggregate) word name
 aggregate_entry table header aggregate _ = Err (reason.BadValue header)
 
 -- ---- entries that are joined
 
 -- the headers of entries, one after the other; None where one of them is an aggregate
-abbrev pub counted : List StatDraft → Option (List Header)
-counted [] = Some []
-counted (draft.Count headers ∷ entries) =
-    option_map (λ later. headers ++ later) (counted entries)
-counted (draft.Over kind column ∷ entries) = None
+abbrev pub headers_of_counts : List StatDraft → Option (List Header)
+headers_of_counts [] = Some []
+headers_of_counts (draft.Count headers ∷ entries) =
+    option_map (λ later. headers ++ later) (headers_of_counts entries)
+headers_of_counts (draft.Over kind column ∷ entries) = None
 
 -- the headers of the last entries, one at least and no more than there are, where each counts
 abbrev pub last_counted : List ℕ → List StatDraft → ℕ → Result (List Header) Reason
 last_counted name entries count =
     if nat_lt 0 count && nat_le count (length entries)
-    then ok_or (counted (latest entries count)) (reason.AggregateIn name)
+    then ok_or (headers_of_counts (latest entries count)) (reason.AggregateIn name)
     else Err (reason.StackTooShort name)
 
 -- the last entries become one, whose filter has the headers of theirs and behind them one more

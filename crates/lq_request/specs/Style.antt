@@ -1,8 +1,9 @@
 -- How a reply to a message is given, and what becomes of the connection.
-use Rattle.std.specs.Prelude.{ℕ, ◌+◌, Bool, true, false, Option, Some, None, unwrap_or, List, take, drop, bytes_eq, codes, position, ◌==◌, if◌then◌else◌}
+use Rattle.std.specs.Prelude.{ℕ, ◌+◌, Bool, true, false, Option, Some, None, unwrap_or, List, take}
+use Rattle.std.specs.Prelude.{drop, bytes_eq, codes, position, ◌==◌, if◌then◌else◌}
 use Rattle.std.specs.List.{filter_map, last_or}
 use Rattle.lq_text.specs.Lines.{lines_of}
-use Rattle.lq_text.specs.Blanks.{trimmed}
+use Rattle.lq_text.specs.Blanks.{without_blanks}
 use Rattle.lq_request.specs.declared.style.Style.{Style}
 
 abbrev pub is_colon : ℕ → Bool
@@ -16,7 +17,7 @@ switch_of on word =
 
 -- what a switch says: it is the word that turns it on, or `off`, with or without blanks around it
 unfoldable pub switch_value : List ℕ → List ℕ → Option Bool
-switch_value on value = switch_of on (trimmed value)
+switch_value on value = switch_of on (without_blanks value)
 
 abbrev pub switch_at : List ℕ → List ℕ → List ℕ → Option ℕ → Option Bool
 switch_at name on line None = None

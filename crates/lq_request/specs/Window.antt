@@ -1,6 +1,7 @@
 -- The window of time that a query asks for: what its filters say of the time of rows. Times are
 -- seconds since 1970 with at most 12 digits, so all are below 1,000,000,000,000.
-use Rattle.std.specs.Prelude.{ℕ, ◌+◌, min, max, ℤ, pos, negsuc, Bool, true, false, not, Option, Some, None, option_and_then, unwrap_or}
+use Rattle.std.specs.Prelude.{ℕ, ◌+◌, min, max, ℤ, pos, negsuc, Bool, true, false, not, Option}
+use Rattle.std.specs.Prelude.{Some, None, option_and_then, unwrap_or}
 use Rattle.std.specs.Prelude.{Result, Ok, Err, List, [], ◌∷◌, filter}
 use Rattle.std.specs.List.{filter_map, flat_map, list_any, reduce}
 use Rattle.std.specs.declared.cmp.Ordering.{Ordering}
@@ -35,9 +36,9 @@ second_at (pos number) = min 1000000000000 number
 second_at (negsuc less) = 0
 
 -- the second after it, or the nearest one that may be a bound
-abbrev pub second_after : ℤ → ℕ
-second_after (pos number) = min 1000000000000 (number + 1)
-second_after (negsuc less) = 0
+abbrev pub next_bound : ℤ → ℕ
+next_bound (pos number) = min 1000000000000 (number + 1)
+next_bound (negsuc less) = 0
 
 abbrev pub bounds : Option ℕ → Option ℕ → TimeBounds
 bounds from until = record { from = from; until = until }
@@ -45,12 +46,12 @@ bounds from until = record { from = from; until = until }
 -- What each comparison with a number says: in order `=`, `!=`, `<`, `>=`, `>` and `<=`. The upper
 -- bound is the first second that isn't allowed.
 abbrev pub bounds_said : Bool → Ordering → ℤ → TimeBounds
-bounds_said false Equal number = bounds (Some (second_at number)) (Some (second_after number))
+bounds_said false Equal number = bounds (Some (second_at number)) (Some (next_bound number))
 bounds_said true Equal number = bounds None None
 bounds_said false Less number = bounds None (Some (second_at number))
 bounds_said true Less number = bounds (Some (second_at number)) None
-bounds_said false Greater number = bounds (Some (second_after number)) None
-bounds_said true Greater number = bounds None (Some (second_after number))
+bounds_said false Greater number = bounds (Some (next_bound number)) None
+bounds_said true Greater number = bounds None (Some (next_bound number))
 
 -- the time of a line of the log, or of a slice of a history
 abbrev pub own_time : Prefix → OwnColumn → TimeBounds → Option TimeTest
@@ -87,8 +88,8 @@ abbrev pub headers_of : List (List Header) → List Header
 headers_of filters = flat_map (λ headers. headers) filters
 
 -- the headers that rows are tested by
-abbrev pub tested : List (List Header) → List Header
-tested filters = headers_of (filter is_tested filters)
+abbrev pub row_headers : List (List Header) → List Header
+row_headers filters = headers_of (filter is_tested filters)
 
 -- whether one of the filters is of the time of a history
 abbrev pub has_history_time : List (List Header) → Bool

@@ -1,7 +1,7 @@
 ghost use Rattle.std.specs.Prelude.{◌≡◌, ◌≢◌, IfSome, map};
 ghost use Rattle.std.specs.List.{AllByRecursion};
 ghost use Rattle.std.specs.Str.{IsUtf8};
-ghost use Rattle.lq_request.specs.Stats.{aggregate_of, first_aggregate, kind_of};
+ghost use Rattle.lq_request.specs.Stats.{aggregate_of, first_aggregate, stat_kind_of};
 
 use crate::words::as_text;
 use lq_stats::StatKind;
@@ -44,7 +44,7 @@ impl Aggregate {
 
     /// The statistics that give it. None where it isn't supported.
     pub fn kind(self) -> Option<StatKind>
-        ensures kind { result ≡ kind_of self }
+        ensures kind { result ≡ stat_kind_of self }
         ensures no_count { IfSome result (λ kind. kind ≢ StatKind.Count) }
     {
         match self {

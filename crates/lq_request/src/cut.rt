@@ -1,4 +1,5 @@
-ghost use Rattle.std.specs.Prelude.{◌≡◌, ◌≢◌, ℕ, ◌+◌, ◌-◌, ◌<◌, ◌≤◌, List, [], ◌++◌, length, take, drop, false, vec_len, IfOk};
+ghost use Rattle.std.specs.Prelude.{◌≡◌, ◌≢◌, ℕ, ◌+◌, ◌-◌, ◌<◌, ◌≤◌, List, [], ◌++◌, length, take};
+ghost use Rattle.std.specs.Prelude.{drop, false, vec_len, IfOk};
 ghost use Rattle.lq_request.specs.Cutting.{lent_piece, Shows, taken_by};
 ghost use Rattle.lq_request.specs.Search.{IsKnown, IsSearched};
 ghost use Rattle.lq_request.specs.Messages.{IsInOrder, IsNext, message_limit, rest_after, whole};
@@ -95,7 +96,7 @@ impl Cut {
         self.end += piece.len();
     }
 
-    fn held(&self) -> &[u8]
+    fn held_bytes(&self) -> &[u8]
         ensures { result.now ≡ self.now }
     {
         &self.buffer[self.start..self.end]
@@ -111,9 +112,9 @@ impl Cut {
             (λ held. held ≡ rest_after (lent_piece result) self.old)) }
     {
         let mut searched = self.searched;
-        let found = first_found(&mut searched, self.held(), ended);
+        let found = first_found(&mut searched, self.held_bytes(), ended);
         let start = self.start;
-        self.start = start + found.taken();
+        self.start = start + found.taken_bytes();
         self.searched = searched;
         match found {
             Found::Message(extent) => message(
@@ -147,7 +148,7 @@ enum Found {
 
 impl Found {
     /// How many bytes it takes from the front.
-    fn taken(self) -> usize
+    fn taken_bytes(self) -> usize
         ensures { result ≡ taken_by self }
     {
         match self {

@@ -1,9 +1,11 @@
-ghost use Rattle.std.specs.Prelude.{◌≡◌, ◌==◌, ◌<◌, All, [], ◌∷◌, ◌++◌, IfOk, IfSome, OnErr, OnOk, length, map};
+ghost use Rattle.std.specs.Prelude.{◌≡◌, ◌==◌, ◌<◌, All, [], ◌∷◌, ◌++◌, IfOk, IfSome, OnErr, OnOk};
+ghost use Rattle.std.specs.Prelude.{length, map};
 ghost use Rattle.lq_filter.specs.declared.header.Header.TheVariants as header;
 ghost use Rattle.lq_filter.specs.Trees.{height};
 ghost use Rattle.lq_request.specs.Filters.{earlier};
 ghost use Rattle.lq_request.specs.Reading.{Finds, Leaves};
-ghost use Rattle.lq_request.specs.Stats.{IsAggregate, IsEntry, IsStat, counted, entry_of};
+ghost use Rattle.lq_request.specs.Stats.{IsAggregate, IsEntry, IsStat, headers_of_counts};
+ghost use Rattle.lq_request.specs.Stats.{entry_of_draft};
 ghost use Rattle.lq_request.specs.Stats.{last_counted, with_joined, with_negated};
 
 use crate::fault::Fault;
@@ -39,7 +41,7 @@ pub enum StatDraft {
 impl StatDraft {
     /// The entry of a query that is read whole.
     fn finish(self) -> Result<StatEntry, Memory>
-        ensures { IfOk result (λ entry. entry ≡ entry_of self) }
+        ensures { IfOk result (λ entry. entry ≡ entry_of_draft self) }
     {
         match self {
             StatDraft::Count(stack) => Ok(StatEntry::Count(stack.finish()?)),
@@ -144,7 +146,7 @@ impl Entries {
             return Err(Fault::Refused(Reason::StackTooShort(Text::new(alloc, name)?)));
         }
         let latest = self.inner.split_off(self.inner.len() - count as usize)?;
-        match counted(alloc, latest)? {
+        match headers_of_counts(alloc, latest)? {
             Some(stack) => Ok(stack),
             None => Err(Fault::Refused(Reason::AggregateIn(Text::new(alloc, name)?))),
         }
@@ -162,7 +164,7 @@ impl Entries {
 
     /// The entries of a query that is read whole.
     pub fn finish(self, alloc: Global) -> Result<Items<StatEntry>, Memory>
-        ensures same { IfOk result (λ stats. stats ≡ map entry_of self) }
+        ensures same { IfOk result (λ stats. stats ≡ map entry_of_draft self) }
         ensures each { IfOk result (All IsStat) }
     {
         let mut rest = self.inner;
@@ -175,9 +177,9 @@ impl Entries {
 }
 
 /// The headers of entries, one after the other. None where one of them is an aggregate.
-fn counted(alloc: Global, entries: VecDeque<StatDraft>) -> Result<Option<Stack>, Memory>
+fn headers_of_counts(alloc: Global, entries: VecDeque<StatDraft>) -> Result<Option<Stack>, Memory>
     requires { All IsEntry entries.items }
-    ensures headers { IfOk result (λ headers. headers ≡ counted entries.items) }
+    ensures headers { IfOk result (λ headers. headers ≡ headers_of_counts entries.items) }
     ensures trees { IfOk result (λ headers. IfSome headers
         (λ headers. height headers ≡ length entries.items)) }
 {

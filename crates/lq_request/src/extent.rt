@@ -1,9 +1,11 @@
-ghost use Rattle.std.specs.Prelude.{◌≡◌, ℕ, ◌+◌, ◌<◌, ◌≤◌, true, false, Contains, List, length, drop, take, IfNone, IfSome};
+ghost use Rattle.std.specs.Prelude.{◌≡◌, ℕ, ◌+◌, ◌<◌, ◌≤◌, true, false, Contains, List, length};
+ghost use Rattle.std.specs.Prelude.{drop, take, IfNone, IfSome};
 ghost use Rattle.std.specs.Bool.{OnFalse, OnTrue};
 ghost use Rattle.std.specs.List.{prefix_len};
 ghost use Rattle.lq_text.specs.Blanks.{is_blank};
 ghost use Rattle.lq_text.specs.Lines.{line_text};
-ghost use Rattle.lq_request.specs.Messages.{command_text, ends_word, front_lines, is_command, is_line_of, message_of, one_empty_line};
+ghost use Rattle.lq_request.specs.Messages.{command_text, ends_word, front_lines, is_command};
+ghost use Rattle.lq_request.specs.Messages.{is_line_of, message_of, one_empty_line};
 ghost use Rattle.lq_request.specs.Extent.{IsExtent};
 ghost use Rattle.lq_request.specs.Search.{AreLines, IsKnown, IsSearched};
 ghost use Rattle.lq_request.specs.declared.extent.LineKind.TheVariants as line_kind;

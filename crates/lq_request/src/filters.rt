@@ -3,7 +3,7 @@ ghost use Rattle.lq_filter.specs.declared.header.Header.TheVariants as header;
 ghost use Rattle.lq_request.specs.Filters.{AreWhole, IsFilter, earlier, last_filters, with_group};
 ghost use Rattle.lq_request.specs.Reading.{Finds, Leaves};
 ghost use Rattle.lq_request.specs.Window.{bounds_of, filter_bounds, filter_time, has_history_time};
-ghost use Rattle.lq_request.specs.Window.{headers_of, is_tested, tested};
+ghost use Rattle.lq_request.specs.Window.{headers_of, is_tested, row_headers};
 
 use crate::fault::Fault;
 use crate::reason::Reason;
@@ -188,7 +188,7 @@ impl Filters {
 
     /// The filter that rows are tested by. The only error is out of memory.
     pub fn finish(self, alloc: Global) -> Result<Filter, Memory>
-        ensures same { IfOk result (λ filter. filter ≡ tested self) }
+        ensures same { IfOk result (λ filter. filter ≡ row_headers self) }
         ensures each { All IsFilter self }
     {
         let mut headers = Stack::new(alloc);

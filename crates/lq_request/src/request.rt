@@ -5,8 +5,9 @@ ghost use Rattle.lq_text.specs.Lines.{lines_of};
 ghost use Rattle.lq_schema.specs.Schema.{columns_of};
 ghost use Rattle.lq_request.specs.Headers.{header_lines};
 ghost use Rattle.lq_request.specs.Reading.{Finds, FixesNoName, HasChosenLines, HasCode, HasEnd};
-ghost use Rattle.lq_request.specs.Reading.{HasTimes, Reads, ShowsCells};
-ghost use Rattle.lq_request.specs.Request.{asked, asked_headers, asked_in, finished, first_line, plain};
+ghost use Rattle.lq_request.specs.Reading.{HasTimes, ReadsRequest, ShowsCells};
+ghost use Rattle.lq_request.specs.Request.{request_in, asked_headers, asked_in, request_of_draft};
+ghost use Rattle.lq_request.specs.Request.{first_line, plain};
 ghost use Rattle.lq_request.specs.Request.{table_of_words};
 ghost use Rattle.lq_request.specs.Stats.{IsStat};
 
@@ -121,9 +122,9 @@ pub enum ReadErr {
 /// of 0 to 255, any other number hasn't 64 bits without a sign, `Filter` or `Stats` has no
 /// operator, or `Stats` has not exactly one word after that of an aggregate. A `Filter` line can't
 /// have `!=` on `time` of `statehist`. All refusals have the style that `reply_style` gives.
-#[tactic(auto, unfolding(crate::specs::Request::asked))]
+#[tactic(auto, unfolding(crate::specs::Request::request_in))]
 pub fn read_request(alloc: Global, b: &[u8], _base: &Base) -> Result<Request, ReadErr>
-    ensures asked { Reads result (asked b.now) }
+    ensures asked { ReadsRequest result (request_in b.now) }
     ensures stats { IfOk result (λ request. All IsStat request.stats) }
     ensures cells { IfOk result ShowsCells }
     ensures times { IfOk result HasTimes }
@@ -177,7 +178,7 @@ fn asked_headers(alloc: Global, draft: Draft, bytes: &[u8]) -> Result<Request, F
     ensures names { IfOk result FixesNoName }
 {
     let draft = header_lines(alloc, draft, bytes)?;
-    finished(alloc, draft)
+    request_of_draft(alloc, draft)
 }
 
 /// A query of a table without header lines.
@@ -245,8 +246,8 @@ fn table_of_words(alloc: Global, words: &[&[u8]]) -> Result<Table, Fault>
 }
 
 /// The request of a query that is read whole, or why it is refused after all.
-fn finished(alloc: Global, draft: Draft) -> Result<Request, Fault>
-    ensures same { Finds result (finished draft) }
+fn request_of_draft(alloc: Global, draft: Draft) -> Result<Request, Fault>
+    ensures same { Finds result (request_of_draft draft) }
     ensures stats { IfOk result (λ request. All IsStat request.stats) }
     ensures cells { IfOk result ShowsCells }
     ensures times { IfOk result HasTimes }

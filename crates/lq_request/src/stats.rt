@@ -1,7 +1,8 @@
 ghost use Rattle.std.specs.Prelude.{◌≡◌, IfOk, map};
 ghost use Rattle.std.specs.List.{AllByRecursion};
 ghost use Rattle.std.specs.Str.{IsUtf8};
-ghost use Rattle.lq_request.specs.Headers.{with_count, with_entry, with_stats_join, with_stats_value};
+ghost use Rattle.lq_request.specs.Headers.{with_count, with_entry, with_stats_join};
+ghost use Rattle.lq_request.specs.Headers.{with_stats_value};
 ghost use Rattle.lq_request.specs.Reading.{Finds, Leaves};
 ghost use Rattle.lq_request.specs.Stats.{aggregate_entry, number_column};
 ghost use Rattle.lq_schema.specs.Kinds.{own_kind};

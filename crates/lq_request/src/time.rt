@@ -1,7 +1,7 @@
 ghost use Rattle.std.specs.Prelude.{◌≡◌};
 ghost use Rattle.lq_request.specs.Reading.{Finds};
 ghost use Rattle.lq_request.specs.Window.{bounds_on, bounds_said, interval_of, own_time, second_at};
-ghost use Rattle.lq_request.specs.Window.{second_after, time_test, whole_interval};
+ghost use Rattle.lq_request.specs.Window.{next_bound, time_test, whole_interval};
 
 use crate::fault::Fault;
 use crate::reason::Reason;
@@ -24,11 +24,11 @@ pub struct TimeBounds {
 
 impl TimeBounds {
     /// The bounds that a comparison with a number says: `negated` with `Less` is `>=`.
-    fn said(negated: bool, ordering: Ordering, number: i64) -> Self
+    fn of_words(negated: bool, ordering: Ordering, number: i64) -> Self
         ensures { result ≡ bounds_said negated ordering number }
     {
         let at = Some(second_at(number));
-        let after = Some(second_after(number));
+        let after = Some(next_bound(number));
         let (from, until) = match (ordering, negated) {
             (Ordering::Equal, false) => (at, after),
             (Ordering::Equal, true) => (None, None),
@@ -58,7 +58,7 @@ impl TimeTest {
         match &test.check.property {
             Property::Compares(Comparison::Number(ordering, number)) => own_time(
                 test.column,
-                TimeBounds::said(test.check.negated, *ordering, *number),
+                TimeBounds::of_words(test.check.negated, *ordering, *number),
             ),
             _ => None,
         }
@@ -141,8 +141,8 @@ fn second_at(number: i64) -> u64
 }
 
 /// The second after the one that a number says, or the nearest one that may be a bound.
-fn second_after(number: i64) -> u64
-    ensures { result ≡ second_after number }
+fn next_bound(number: i64) -> u64
+    ensures { result ≡ next_bound number }
 {
     if number < 0 {
         0

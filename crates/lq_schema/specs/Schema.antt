@@ -1,5 +1,6 @@
 -- The tables: their columns in order, and the one that has a name.
-use Rattle.std.specs.Prelude.{ℕ, Option, Some, None, List, [], ◌∷◌, map, find, bytes_eq, nat_eq, drop, length, if◌then◌else◌}
+use Rattle.std.specs.Prelude.{ℕ, Option, Some, None, List, [], ◌∷◌, map, find, bytes_eq, nat_eq}
+use Rattle.std.specs.Prelude.{drop, length, if◌then◌else◌}
 use Rattle.std.specs.List.{flat_map, starts_with}
 use Rattle.std.specs.Option.{option_or, option_and_then}
 use Rattle.lq_schema.specs.declared.columns.Table.{Table}
@@ -86,8 +87,8 @@ unfoldable pub columns_of : Table → List Col
 columns_of table = flat_map part_columns (part prefix.Own (subject_of table) ∷ joined_of table)
 
 -- the column of a table that has a whole name
-abbrev pub named : Table → List ℕ → Option Col
-named table name = find (λ column. bytes_eq name (full_name column)) (columns_of table)
+abbrev pub column_named : Table → List ℕ → Option Col
+column_named table name = find (λ column. bytes_eq name (full_name column)) (columns_of table)
 
 -- what follows a front, None where the name doesn't begin with that
 abbrev pub without_prefix : List ℕ → List ℕ → Option (List ℕ)
@@ -98,5 +99,5 @@ without_prefix name front =
 -- own prefix.
 unfoldable pub column_of : Table → List ℕ → Option Col
 column_of table name =
-    option_or (named table name)
-    (option_and_then (named table) (without_prefix name (own_prefix (subject_of table))))
+    option_or (column_named table name)
+    (option_and_then (column_named table) (without_prefix name (own_prefix (subject_of table))))

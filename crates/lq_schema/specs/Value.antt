@@ -16,14 +16,14 @@ pub data Value : Type 0 where
   Pairs : List (List ℕ × List ℕ) → Value
 
 -- what a value says
-abbrev pub shown : Val → Value
-shown (val.Int number) = Number number
-shown (val.Micro micro) = Millionths micro.millionths
-shown (val.Str text) = Words text.now
-shown (val.List texts) = Texts texts
-shown (val.Nums numbers) = Numbers numbers
-shown (val.Pairs pairs) = Pairs pairs
-shown (val.Own text) = Words text
+abbrev pub meaning_of : Val → Value
+meaning_of (val.Int number) = Number number
+meaning_of (val.Micro micro) = Millionths micro.millionths
+meaning_of (val.Str text) = Words text.now
+meaning_of (val.List texts) = Texts texts
+meaning_of (val.Nums numbers) = Numbers numbers
+meaning_of (val.Pairs pairs) = Pairs pairs
+meaning_of (val.Own text) = Words text
 
 -- the value of a cell without an object, by its column's kind
 abbrev pub empty_value : ColKind → Value

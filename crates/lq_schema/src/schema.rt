@@ -4,7 +4,9 @@ ghost use Rattle.std.specs.Option.{option_copied};
 ghost use Rattle.lq_schema.specs.Kinds.{own_kind};
 ghost use Rattle.lq_schema.specs.Names.{full_name, own_name, prefix_text, table_name};
 ghost use Rattle.lq_schema.specs.Order.{own_columns};
-ghost use Rattle.lq_schema.specs.Schema.{column_of, columns_of, joined_of, named, part_columns, subject_of, table_of, tables, without_prefix};
+ghost use Rattle.lq_schema.specs.Schema.{column_of, columns_of, joined_of, column_named};
+ghost use Rattle.lq_schema.specs.Schema.{part_columns, subject_of, table_of, tables};
+ghost use Rattle.lq_schema.specs.Schema.{without_prefix};
 
 use crate::columns::{Col, ColKind, Name, Part, Prefix, Subject, Table};
 
@@ -29,10 +31,10 @@ pub fn table(name: &str) -> Option<Table>
 pub fn column(t: Table, name: &str) -> Option<Col>
     ensures { result ≡ column_of t name.now }
 {
-    match named(t, name) {
+    match column_named(t, name) {
         Some(column) => Some(column),
         None => match without_prefix(name, t.subject().own_prefix()) {
-            Some(name) => named(t, name),
+            Some(name) => column_named(t, name),
             None => None,
         },
     }
@@ -50,7 +52,7 @@ pub fn column_count(t: Table) -> usize
     ensures { result ≡ length (columns_of t) }
 {
     let mut count = t.subject().column_count();
-    for part in t.joined() {
+    for part in t.joined_parts() {
         count += part.subject.column_count();
     }
     count
@@ -68,7 +70,7 @@ pub fn column_at(t: Table, i: usize) -> Col
             own: own.column_at(i),
         };
     }
-    joined_at(t.joined(), i - own.column_count())
+    joined_at(t.joined_parts(), i - own.column_count())
 }
 
 /// The column at a place among those of joined parts.
@@ -103,8 +105,8 @@ pub fn column_name(c: Col) -> Name
 }
 
 /// The column with a whole name.
-fn named(t: Table, name: &str) -> Option<Col>
-    ensures { result ≡ named t name.now }
+fn column_named(t: Table, name: &str) -> Option<Col>
+    ensures { result ≡ column_named t name.now }
 {
     for i in 0..column_count(t) {
         let column = column_at(t, i);
@@ -229,7 +231,7 @@ impl Table {
     }
 
     /// Whose columns it has beside its own.
-    pub fn joined(self) -> &'static [Part]
+    pub fn joined_parts(self) -> &'static [Part]
         ensures parts { result.now ≡ joined_of self }
         ensures few { length result.now ≤ 2 }
     {

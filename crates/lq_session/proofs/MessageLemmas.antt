@@ -8,7 +8,7 @@ use Rattle.lq_outside.specs.Faults.{Rose}
 use Rattle.lq_outside.specs.Sinks.{AppendsFront}
 use Rattle.lq_session.specs.Reading.{AppendsOrFaults}
 use Rattle.lq_request.specs.Messages.{message_limit, Message, Piece, Query, Command, TooLong, Empty, More, messages, whole_messages, first_piece, message_of, message_at, whole, command_from, query_from, IsCutOff, IsLast}
-use Rattle.lq_request.specs.Request.{asked}
+use Rattle.lq_request.specs.Request.{request_in}
 use Rattle.lq_live.specs.State.{Counted}
 use Rattle.lq_output.specs.Header.{refusal_text}
 use Rattle.lq_request.specs.Style.{style_of}
@@ -24,7 +24,7 @@ comes_first ended held left piece cut = record {
 }
 
 pub query_served : (ended : Bool) (held left text : List ℕ) (old : Counted) (out_old out : Option (List ℕ)) → IsCutOff ended held (Query text) left
-    → true ≡ keeps (asked text) → Appends out_old out (reply_to (asked text) old.state) → Serves ended held left old old out_old out
+    → true ≡ keeps (request_in text) → Appends out_old out (reply_to (request_in text) old.state) → Serves ended held left old old out_old out
 query_served ended held left text old out_old out cut keep written = record {
   piece = Query text;
   cut = cut;
@@ -34,7 +34,7 @@ query_served ended held left text old out_old out cut keep written = record {
 }
 
 pub last_query_served : (ended : Bool) (held left text : List ℕ) (old : Counted) (out_old out : Option (List ℕ)) → IsCutOff ended held (Query text) left
-    → false ≡ keeps (asked text) → Appends out_old out (reply_to (asked text) old.state) → ServesLast ended held old out_old out
+    → false ≡ keeps (request_in text) → Appends out_old out (reply_to (request_in text) old.state) → ServesLast ended held old out_old out
 last_query_served ended held left text old out_old out cut keep written = record {
   piece = Query text;
   first = comes_first ended held left (Query text) cut;

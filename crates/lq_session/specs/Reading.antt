@@ -7,6 +7,10 @@ use Rattle.lq_live.specs.State.{State}
 use Rattle.lq_request.specs.Messages.{Piece, messages, whole_messages}
 use Rattle.lq_session.specs.Replies.{is_over, memory_reply, replies, replies_to}
 
+-- the most bytes that are read at once
+abbrev pub read_limit : ℕ
+read_limit = 65536
+
 -- some of the input was read, or nothing
 pub record ReadsSome (old left : Option (List ℕ)) : Type 0 where
   pub taken : List ℕ
@@ -30,7 +34,7 @@ pub record ReadsNoFurther {Input : Type 0} (left_in : Input → Option (List ℕ
   pub goes_on : is_over (whole_messages before) ≡ false
   pub taken : Consumes (left_in point) (left_in new) last
   pub once : (new ≡ point) ⊎ one_read point new
-  pub few : length last ≤ 65536
+  pub few : length last ≤ read_limit
 
 -- the connection doesn't end within the messages that are whole in what was read
 pub record ReadsPart (old left : Option (List ℕ)) : Type 0 where

@@ -1,5 +1,7 @@
 -- What a connection is answered, over all its messages.
-use Rattle.std.specs.Prelude.{ℕ, ◌+◌, nat_le, Bool, true, false, not, ◌||◌, Option, Some, None, Result, Ok, Err, List, [], ◌∷◌, ◌++◌, codes, length, take, if◌then◌else◌}
+use Rattle.std.specs.Prelude.{ℕ, ◌+◌, nat_le, Bool, true, false, not, ◌||◌, Option, Some, None}
+use Rattle.std.specs.Prelude.{Result, Ok, Err, List, [], ◌∷◌, ◌++◌, codes, length, take}
+use Rattle.std.specs.Prelude.{if◌then◌else◌}
 use Rattle.std.specs.List.{list_any}
 use Rattle.lq_events.specs.declared.update.Update.{Update}
 use Rattle.lq_commands.specs.Orders.{order_of}
@@ -7,7 +9,7 @@ use Rattle.lq_commands.specs.declared.order.Order.{Order}
 use Rattle.lq_live.specs.State.{State, Counted}
 use Rattle.lq_live.specs.Step.{step}
 use Rattle.lq_request.specs.Messages.{Piece, Query, Command, TooLong, Empty, More, messages}
-use Rattle.lq_request.specs.Request.{Refused, asked}
+use Rattle.lq_request.specs.Request.{Refused, request_in}
 use Rattle.lq_request.specs.declared.request.Request.{Request}
 use Rattle.lq_request.specs.Style.{style_of}
 use Rattle.lq_output.specs.Header.{refusal_text}
@@ -38,7 +40,7 @@ out_of_memory = record { code = 500; text = codes "out of memory" }
 -- The bytes that a message is answered with at a state. A too long message is refused in the style
 -- of its front. A command never gets a reply.
 abbrev pub reply_to_piece : Piece → State → List ℕ
-reply_to_piece (Query text) s = reply_to (asked text) s
+reply_to_piece (Query text) s = reply_to (request_in text) s
 reply_to_piece (Command text) s = []
 reply_to_piece (TooLong front) s = refusal_text too_long (style_of front).fixed16
 reply_to_piece Empty s = []
@@ -75,7 +77,7 @@ after_piece at More = at
 -- whether a message is the last one of its connection: a query that doesn't keep it, or one that is
 -- too long
 abbrev pub is_last : Piece → Bool
-is_last (Query text) = not (keeps (asked text))
+is_last (Query text) = not (keeps (request_in text))
 is_last (Command text) = false
 is_last (TooLong front) = true
 is_last Empty = true

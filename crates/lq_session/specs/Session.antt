@@ -1,10 +1,12 @@
 -- What the parts of a session do.
-use Rattle.std.specs.Prelude.{◌≡◌, ℕ, ◌+◌, ◌<◌, ◌≤◌, Bool, true, false, IsTrue, IfSome, Option, List, [], ◌∷◌, ◌++◌, length}
+use Rattle.std.specs.Prelude.{◌≡◌, ℕ, ◌+◌, ◌<◌, ◌≤◌, Bool, true, false, IsTrue, IfSome, Option}
+use Rattle.std.specs.Prelude.{List, [], ◌∷◌, ◌++◌, length}
 use Rattle.std.specs.Io.KnownBytes.{Appends, Consumes, IsAtEnd}
 use Rattle.lq_outside.specs.Sinks.{AppendsFront}
 use Rattle.lq_live.specs.State.{State, Counted}
 use Rattle.lq_request.specs.Messages.{message_limit, Piece, messages, whole_messages, IsCutOff}
-use Rattle.lq_session.specs.Reading.{AppendsOrFaults, ReadsPart, ReadsSome, RepliesToPart, RepliesToRead}
+use Rattle.lq_session.specs.Reading.{AppendsOrFaults, ReadsPart, ReadsSome, RepliesToPart}
+use Rattle.lq_session.specs.Reading.{RepliesToRead, read_limit}
 use Rattle.lq_session.specs.Replies.{after_piece, is_last, memory_reply, replies, reply_to_piece}
 use Rattle.lq_session.specs.declared.session.Next.{Next}
 use Rattle.lq_session.specs.declared.session.Next.TheVariants as next
@@ -18,7 +20,7 @@ use Rattle.lq_session.specs.declared.session.ServeErr.TheVariants as error
 pub record Fills (ended : Bool) (left_old left_new : Option (List ℕ))
     (old new : List ℕ) : Type 0 where
   pub bytes : List ℕ
-  pub few : length bytes ≤ 65536
+  pub few : length bytes ≤ read_limit
   pub taken : Consumes left_old left_new bytes
   pub held : new ≡ old ++ bytes
   pub at_end : ended ≡ true → IsAtEnd left_new

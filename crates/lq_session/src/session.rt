@@ -1,4 +1,5 @@
-ghost use Rattle.std.specs.Prelude.{[], ◌≡◌, All, ◌≢◌, ◌<◌, ◌≤◌, ◌⊎◌, length, vec_len, IfOk, IfErr, IfSome, OnErr, OnOk};
+ghost use Rattle.std.specs.Prelude.{[], ◌≡◌, All, ◌≢◌, ◌<◌, ◌≤◌, ◌⊎◌, length, vec_len, IfOk, IfErr};
+ghost use Rattle.std.specs.Prelude.{IfSome, OnErr, OnOk};
 ghost use Rattle.std.specs.Io.KnownBytes.{Appends, Keeps};
 ghost use Rattle.lq_outside.specs.Faults.{HasCause, Rose};
 ghost use Rattle.lq_outside.specs.Sinks.{AppendsFront};
@@ -6,11 +7,13 @@ ghost use Rattle.lq_request.specs.Messages.{Command, Query, TooLong, message_lim
 ghost use Rattle.lq_output.specs.Header.{refusal_text};
 ghost use Rattle.lq_query.specs.Answer.{answer_of};
 ghost use Rattle.lq_request.specs.Reading.{ShowsCells};
-ghost use Rattle.lq_request.specs.Request.{asked};
+ghost use Rattle.lq_request.specs.Request.{request_in};
 ghost use Rattle.lq_request.specs.Stats.{IsStat};
 ghost use Rattle.lq_request.specs.Style.{style_of};
-ghost use Rattle.lq_session.specs.Reading.{AppendsOrFaults, ReadsAll, ReadsNoFurther, RepliesToFirst};
-ghost use Rattle.lq_session.specs.Replies.{after_piece, keeps, opening, out_of_memory, replies, reply_to, too_long, update_of};
+ghost use Rattle.lq_session.specs.Reading.{AppendsOrFaults, ReadsAll, ReadsNoFurther};
+ghost use Rattle.lq_session.specs.Reading.{RepliesToFirst, read_limit};
+ghost use Rattle.lq_session.specs.Replies.{after_piece, keeps, opening, out_of_memory, replies};
+ghost use Rattle.lq_session.specs.Replies.{reply_to, too_long, update_of};
 ghost use Rattle.lq_session.specs.Session.{Breaks, BreaksReply, Does, Fills, Stops};
 
 use lq_commands::{CommandErr, Order, read_command};
@@ -102,7 +105,7 @@ fn serve_all<S: Source, K: Sink>(
 ) -> Result<(), ServeErr>
     requires opened { session.old ≡ opening session.old.state }
     requires none { cut.old ≡ [] }
-    requires size { length piece.old ≡ 65536 }
+    requires size { length piece.old ≡ read_limit }
     ensures written { OnOk result (IfSome (S.left input.old) (λ all.
         Appends (K.held output.old) (K.held output.new) (replies session.old.state all))) }
     ensures read { OnOk result (ReadsAll (S.left input.old) (S.left input.new)) }
@@ -140,7 +143,7 @@ fn serve_all<S: Source, K: Sink>(
 fn start(alloc: Global, live: Live) -> Result<(Session, Cut, Vec<u8>), Memory>
     ensures session { IfOk result (λ parts. parts.0 ≡ live) }
     ensures cut { IfOk result (λ parts. parts.1 ≡ []) }
-    ensures piece { IfOk result (λ parts. vec_len parts.2 ≡ 65536) }
+    ensures piece { IfOk result (λ parts. vec_len parts.2 ≡ read_limit) }
 {
     let cut = Cut::new(alloc)?;
     let piece = new_piece(alloc)?;
@@ -149,7 +152,7 @@ fn start(alloc: Global, live: Live) -> Result<(Session, Cut, Vec<u8>), Memory>
 
 /// Room for what one read gives.
 fn new_piece(alloc: Global) -> Result<Vec<u8>, Memory>
-    ensures { IfOk result (λ piece. vec_len piece ≡ 65536) }
+    ensures { IfOk result (λ piece. vec_len piece ≡ read_limit) }
 {
     vec![in alloc; 0; PIECE]
 }
@@ -157,7 +160,7 @@ fn new_piece(alloc: Global) -> Result<Vec<u8>, Memory>
 /// Reads once after what is held, and says whether the input has ended.
 fn fill<S: Source>(input: &mut S, cut: &mut Cut, piece: &mut [u8]) -> Result<bool, ServeErr>
     requires room { length cut.old ≤ message_limit }
-    requires size { length piece.old ≡ 65536 }
+    requires size { length piece.old ≡ read_limit }
     ensures ok { IfOk result
         (λ ended. Fills ended (S.left input.old) (S.left input.new) cut.old cut.new) }
     ensures err { OnErr result (Keeps (S.left input.old) (S.left input.new)) }
@@ -251,9 +254,9 @@ impl Session {
     /// Writes the reply to a query, and says whether the connection goes on. Where memory runs out
     /// the query is refused.
     fn answer<K: Sink>(&self, text: &[u8], output: &mut K) -> Result<bool, ServeErr>
-        ensures keep { IfOk result (λ keep. keep ≡ keeps (asked text.now)) }
+        ensures keep { IfOk result (λ keep. keep ≡ keeps (request_in text.now)) }
         ensures ok { OnOk result (Appends (K.held output.old) (K.held output.new)
-            (reply_to (asked text.now) self.now.state)) }
+            (reply_to (request_in text.now) self.now.state)) }
         ensures broken { IfErr result (λ error.
             BreaksReply error (Query text.now) self.now.state
             (K.faults output.old) (K.faults output.new)
@@ -290,7 +293,7 @@ impl Session {
     }
 
     /// The reply to a query that is read.
-    fn answered(&self, request: &Request) -> Result<Answered, Memory>
+    fn answer_to(&self, request: &Request) -> Result<Answered, Memory>
         requires cells { ShowsCells request.now }
         requires stats { All IsStat request.now.stats }
         ensures bytes { IfOk result (λ answered.
@@ -307,11 +310,11 @@ impl Session {
     /// The reply to a query.
     fn reply(&self, text: &[u8]) -> Result<Answered, Memory>
         ensures bytes { IfOk result
-            (λ answered. answered.bytes ≡ reply_to (asked text.now) self.now.state) }
-        ensures keep { IfOk result (λ answered. answered.keep ≡ keeps (asked text.now)) }
+            (λ answered. answered.bytes ≡ reply_to (request_in text.now) self.now.state) }
+        ensures keep { IfOk result (λ answered. answered.keep ≡ keeps (request_in text.now)) }
     {
         match read_request(self.alloc, text, self.live.base()) {
-            Ok(request) => self.answered(&request),
+            Ok(request) => self.answer_to(&request),
             Err(
                 ReadErr::Refused {
                     refusal,

@@ -8,7 +8,7 @@ use Rattle.lq_records.specs.declared.ids.HostId.{HostId}
 use Rattle.lq_records.specs.declared.object.Object.{Object}
 use Rattle.lq_statehist.specs.Notes.{Note, Said, State, Downtime, Flapping, Period}
 use Rattle.lq_statehist.specs.Pass.{note_of}
-use Rattle.lq_statehist.specs.Sorted.{AreSorted, host_of, is_of_host, is_of_period, is_on, is_period, object_in, with_note}
+use Rattle.lq_statehist.specs.Sorted.{AreSorted, host_about, is_of_host, is_of_period, is_on, is_period, object_of_said, with_note}
 use Rattle.lq_statehist.specs.declared.line.Line.{Line}
 use Rattle.lq_statehist.specs.declared.notes.Notes.{Notes}
 
@@ -63,13 +63,13 @@ pub none_set : {V : Type 0} (notes : V → List Note) (note : Note) (items : Lis
     → IfSome (slice_get items place) (λ now. IsSomeAnd (slice_get items place) (λ kept. notes now ≡ (if at == place then notes kept ++ note ∷ [] else notes kept)))
 none_set notes note items at out place = none_with notes note items at place (at == place) (eqb-true at place) out
 
-is_of_none : (said : Said) → object_in said ≡ None → is_period said ≡ true
+is_of_none : (said : Said) → object_of_said said ≡ None → is_period said ≡ true
 is_of_none (State found state output) none = absurd (true≢false (sym (ap is_none none)))
 is_of_none (Downtime found on) none = absurd (true≢false (sym (ap is_none none)))
 is_of_none (Flapping found on) none = absurd (true≢false (sym (ap is_none none)))
 is_of_none (Period name on) none = refl
 
-is_of_some : (said : Said) (about : Object) → object_in said ≡ Some about → is_period said ≡ false
+is_of_some : (said : Said) (about : Object) → object_of_said said ≡ Some about → is_period said ≡ false
 is_of_some (State found state output) about some = refl
 is_of_some (Downtime found on) about some = refl
 is_of_some (Flapping found on) about some = refl
@@ -94,7 +94,7 @@ module _ (old new : Notes) (base : Base) (line : Line) (told : List Note) (are :
   kept_on notes p none (Some value) is = is ∙ none_filtered p none
 
   -- a line about a time period
-  pub period_added : object_in (note_of line).said ≡ None → new.hosts ≡ old.hosts
+  pub period_added : object_of_said (note_of line).said ≡ None → new.hosts ≡ old.hosts
       → map note_of new.periods.items ≡ map note_of old.periods.items ++ note_of line ∷ [] → AreSorted new base (told ++ note_of line ∷ [])
   period_added none hosts periods = record {
     count = ap (λ kept. length kept.items) hosts ∙ are.count;
@@ -105,7 +105,7 @@ module _ (old new : Notes) (base : Base) (line : Line) (told : List Note) (are :
   }
 
   -- a line about an object of a host that the base has
-  pub host_added : (about : Object) (host : HostId) → object_in (note_of line).said ≡ Some about → host_of base about ≡ Some host
+  pub host_added : (about : Object) (host : HostId) → object_of_said (note_of line).said ≡ Some about → host_about base about ≡ Some host
       → length new.hosts.items ≡ length old.hosts.items
       → ((place : ℕ) → IfSome (slice_get new.hosts.items place) (λ now. IsSomeAnd (slice_get old.hosts.items place) (λ kept. map note_of now.items ≡ with_note host place line (map note_of kept.items))))
       → new.periods ≡ old.periods → AreSorted new base (told ++ note_of line ∷ [])
@@ -120,7 +120,7 @@ module _ (old new : Notes) (base : Base) (line : Line) (told : List Note) (are :
   }
 
   -- a line about an object whose host isn't known
-  pub nowhere_added : (about : Object) → object_in (note_of line).said ≡ Some about → host_of base about ≡ None
+  pub nowhere_added : (about : Object) → object_of_said (note_of line).said ≡ Some about → host_about base about ≡ None
       → AreSorted old base (told ++ note_of line ∷ [])
   nowhere_added about object nowhere = record {
     count = are.count;

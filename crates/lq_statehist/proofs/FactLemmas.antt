@@ -3,9 +3,9 @@ use Rattle.std.proofs.Common.{◌≡◌, ℕ, ℤ, Bool, true, false, Decides, L
 use Rattle.std.proofs.lemmas.Bool.Decides.{Decides-and, Decides-int_eq, Decides-like}
 use Rattle.std.proofs.lemmas.Slice.Eq.{bytes_eq-Decides}
 use Rattle.lq_statehist.specs.Facts.{Facts}
-use Rattle.lq_statehist.specs.Tiling.{is_same, same_facts}
+use Rattle.lq_statehist.specs.Tiling.{is_same_flag, same_facts}
 
-decides_same : (a b : Bool) → Decides (is_same a b) (a ≡ b)
+decides_same : (a b : Bool) → Decides (is_same_flag a b) (a ≡ b)
 decides_same true true = (λ is. refl, λ is. refl)
 decides_same true false = (λ is. sym is, λ is. sym is)
 decides_same false true = (λ is. is, λ is. is)

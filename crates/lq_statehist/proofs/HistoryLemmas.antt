@@ -2,18 +2,18 @@
 use Rattle.std.proofs.Common.{◌≡◌, ◌≢◌, ◌⊎◌, true≢false, inl, inr, ℕ, zero, suc, ◌+◌, ◌-◌, ◌<◌, ◌≤◌, Bool, true, false, List, [], ◌∷◌, refl, sym, ap, subst, ◌∙◌, arith}
 use Rattle.std.proofs.lemmas.Bool.{cases_order}
 use Rattle.lq_statehist.specs.Facts.{Known}
-use Rattle.lq_statehist.specs.Tiling.{IsConstant, IsHistory, IsOnlyHistory, NeighboursDiffer, Piece, Tiles, joined, pieces_of, same_facts, second_piece}
+use Rattle.lq_statehist.specs.Tiling.{IsConstant, IsHistory, IsOnlyHistory, NeighboursDiffer, HistoryPiece, Tiles, with_piece_before, pieces_between, same_facts, second_piece}
 use Rattle.lq_statehist.proofs.FactLemmas.{facts_decide}
 use Rattle.lq_statehist.proofs.JoinLemmas.{no_pieces, pieces_next}
 
 -- ---- it is a history
 
-tail_differs : (piece : Piece) (pieces : List Piece) → NeighboursDiffer (piece ∷ pieces) → NeighboursDiffer pieces
+tail_differs : (piece : HistoryPiece) (pieces : List HistoryPiece) → NeighboursDiffer (piece ∷ pieces) → NeighboursDiffer pieces
 tail_differs piece [] differ = differ
 tail_differs piece (next ∷ pieces) differ = differ.1
 
 -- neighbours are compared by what they tell
-head_differs : (piece other : Piece) (pieces : List Piece) → piece.known.facts ≡ other.known.facts → NeighboursDiffer (piece ∷ pieces) → NeighboursDiffer (other ∷ pieces)
+head_differs : (piece other : HistoryPiece) (pieces : List HistoryPiece) → piece.known.facts ≡ other.known.facts → NeighboursDiffer (piece ∷ pieces) → NeighboursDiffer (other ∷ pieces)
 head_differs piece other [] same differ = differ
 head_differs piece other (next ∷ pieces) same differ = (λ alike. differ.0 (same ∙ alike), differ.1)
 
@@ -23,7 +23,7 @@ one_second at from = record {
   each = λ second after before. ap (λ n. (at n).facts) (omega (arith, after, before));
 }
 
-module _ (at : ℕ → Known) (from until : ℕ) (next : Piece) (pieces : List Piece) (is : IsHistory at (from + 1) until (next ∷ pieces)) where
+module _ (at : ℕ → Known) (from until : ℕ) (next : HistoryPiece) (pieces : List HistoryPiece) (is : IsHistory at (from + 1) until (next ∷ pieces)) where
   starts : next.from ≡ from + 1
   starts = is.tiles.0
 
@@ -52,14 +52,14 @@ module _ (at : ℕ → Known) (from until : ℕ) (next : Piece) (pieces : List P
     differ = (differs, is.differ);
   }
 
-with_next : (at : ℕ → Known) (from until : ℕ) (next : Piece) (pieces : List Piece) (same : Bool) → same_facts (at from).facts next.known.facts ≡ same
-    → IsHistory at (from + 1) until (next ∷ pieces) → IsHistory at from until (joined (second_piece at from) (next ∷ pieces))
+with_next : (at : ℕ → Known) (from until : ℕ) (next : HistoryPiece) (pieces : List HistoryPiece) (same : Bool) → same_facts (at from).facts next.known.facts ≡ same
+    → IsHistory at (from + 1) until (next ∷ pieces) → IsHistory at from until (with_piece_before (second_piece at from) (next ∷ pieces))
 with_next at from until next pieces true same is =
     rw same (grown at from until next pieces is ((facts_decide _ _).0 same))
 with_next at from until next pieces false same is =
     rw same (put at from until next pieces is (λ alike. absurd (true≢false (sym ((facts_decide _ _).1 alike) ∙ same))))
 
-with_second : (at : ℕ → Known) (from until : ℕ) (pieces : List Piece) → IsHistory at (from + 1) until pieces → IsHistory at from until (joined (second_piece at from) pieces)
+with_second : (at : ℕ → Known) (from until : ℕ) (pieces : List HistoryPiece) → IsHistory at (from + 1) until pieces → IsHistory at from until (with_piece_before (second_piece at from) pieces)
 with_second at from until [] is = record {
   tiles = (refl, omega arith, is.tiles);
   constant = (one_second at from, is.constant);
@@ -67,21 +67,21 @@ with_second at from until [] is = record {
 }
 with_second at from until (next ∷ pieces) is = with_next at from until next pieces (same_facts (at from).facts next.known.facts) refl is
 
-history_from : (at : ℕ → Known) (count from until : ℕ) → until ≡ from + count → IsHistory at from until (pieces_of at from until)
+history_from : (at : ℕ → Known) (count from until : ℕ) → until ≡ from + count → IsHistory at from until (pieces_between at from until)
 history_from at zero from until is =
     subst (IsHistory at from until) (sym (no_pieces at from until (omega (arith, is))))
     (record { tiles = omega (arith, is); constant = tt; differ = tt })
 history_from at (suc count) from until is =
     subst (IsHistory at from until) (sym (pieces_next at from until (omega (arith, is))))
-    (with_second at from until (pieces_of at (from + 1) until) (history_from at count (from + 1) until (omega (arith, is))))
+    (with_second at from until (pieces_between at (from + 1) until) (history_from at count (from + 1) until (omega (arith, is))))
 
 -- ---- no others are one
 
-tiles_later : (from until : ℕ) (pieces : List Piece) → Tiles from until pieces → from ≤ until
+tiles_later : (from until : ℕ) (pieces : List HistoryPiece) → Tiles from until pieces → from ≤ until
 tiles_later from until [] tiles = omega (arith, tiles)
 tiles_later from until (piece ∷ pieces) tiles = omega (arith, tiles.0, tiles.1, tiles_later piece.until until pieces tiles.2)
 
-tail_is : (at : ℕ → Known) (from until : ℕ) (piece : Piece) (pieces : List Piece) → IsHistory at from until (piece ∷ pieces) → IsHistory at piece.until until pieces
+tail_is : (at : ℕ → Known) (from until : ℕ) (piece : HistoryPiece) (pieces : List HistoryPiece) → IsHistory at from until (piece ∷ pieces) → IsHistory at piece.until until pieces
 tail_is at from until piece pieces is = record {
   tiles = is.tiles.2;
   constant = is.constant.1;
@@ -89,7 +89,7 @@ tail_is at from until piece pieces is = record {
 }
 
 -- a piece doesn't end where one that begins with it goes on
-too_short : (at : ℕ → Known) (from until : ℕ) (piece other : Piece) (pieces others : List Piece) → IsHistory at from until (piece ∷ pieces)
+too_short : (at : ℕ → Known) (from until : ℕ) (piece other : HistoryPiece) (pieces others : List HistoryPiece) → IsHistory at from until (piece ∷ pieces)
     → IsHistory at from until (other ∷ others) → piece.until < other.until → ⊥
 too_short at from until piece other [] others is others_is shorter =
     omega (arith, is.tiles.2, shorter, tiles_later other.until until others others_is.tiles.2)
@@ -101,10 +101,10 @@ too_short at from until piece other (next ∷ pieces) others is others_is shorte
     ∙ ap (λ known. known.facts) (sym is.constant.1.0.first))
 
 piece_same : (a b c d : ℕ) (known other : Known) → a ≡ c → b ≡ d → known ≡ other
-    → ◌≡◌ {A = Piece} (record { from = a; until = b; known = known }) (record { from = c; until = d; known = other })
+    → ◌≡◌ {A = HistoryPiece} (record { from = a; until = b; known = known }) (record { from = c; until = d; known = other })
 piece_same a b c d known other from until same = rw (from, until, same) refl
 
-unique : (at : ℕ → Known) (from until : ℕ) (pieces others : List Piece) → IsHistory at from until pieces → IsHistory at from until others → others ≡ pieces
+unique : (at : ℕ → Known) (from until : ℕ) (pieces others : List HistoryPiece) → IsHistory at from until pieces → IsHistory at from until others → others ≡ pieces
 unique at from until [] [] is others_is = refl
 unique at from until [] (other ∷ others) is others_is =
     absurd (omega (arith, is.tiles, others_is.tiles.0, others_is.tiles.1, tiles_later other.until until others others_is.tiles.2))
@@ -125,5 +125,5 @@ unique at from until (piece ∷ pieces) (other ∷ others) is others_is =
 pub only_history : IsOnlyHistory
 only_history at from until some = (
   history_from at (until - from) from until (omega (arith, some)),
-  λ others is. unique at from until (pieces_of at from until) others (history_from at (until - from) from until (omega (arith, some))) is,
+  λ others is. unique at from until (pieces_between at from until) others (history_from at (until - from) from until (omega (arith, some))) is,
 )

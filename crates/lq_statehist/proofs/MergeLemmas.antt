@@ -4,7 +4,7 @@ use Rattle.std.proofs.lemmas.Bool.Decides.{nat_tests}
 use Rattle.std.proofs.lemmas.List.{get_or-map, length-drop, length-map}
 use Rattle.lq_statehist.specs.Notes.{Note}
 use Rattle.lq_statehist.specs.Pass.{note_of}
-use Rattle.lq_statehist.specs.Sorted.{merged}
+use Rattle.lq_statehist.specs.Sorted.{merged_notes}
 use Rattle.lq_statehist.specs.declared.line.Line.{Line}
 
 pub from_line : (lines : List Line) (at : ℕ) (d : Line) → at < length lines → drop at (map note_of lines) ≡ note_of (get_or lines at d) ∷ drop (at + 1) (map note_of lines)
@@ -14,12 +14,12 @@ from_line lines at d within =
     ∙ ap (λ note. note ∷ drop (suc at) (map note_of lines)) (get_or-map note_of lines at d (note_of d) within)
     ∙ ap (λ n. note_of (get_or lines at d) ∷ drop n (map note_of lines)) (sym next)
 
-takes : (first second : Note) (notes others : List Note) → first.place < second.place → merged (first ∷ notes) (second ∷ others) ≡ first ∷ merged notes (second ∷ others)
+takes : (first second : Note) (notes others : List Note) → first.place < second.place → merged_notes (first ∷ notes) (second ∷ others) ≡ first ∷ merged_notes notes (second ∷ others)
 takes first second notes others before =
     let is : nat_lt first.place second.place ≡ true = grind (arith, nat_tests, before) in
     rw is refl
 
-takes_other : (first second : Note) (notes others : List Note) → second.place ≤ first.place → merged (first ∷ notes) (second ∷ others) ≡ second ∷ merged (first ∷ notes) others
+takes_other : (first second : Note) (notes others : List Note) → second.place ≤ first.place → merged_notes (first ∷ notes) (second ∷ others) ≡ second ∷ merged_notes (first ∷ notes) others
 takes_other first second notes others before =
     let is : nat_lt first.place second.place ≡ false = grind (arith, nat_tests, before) in
     rw is refl
@@ -42,7 +42,7 @@ append_none : (notes : List Note) → notes ≡ notes ++ []
 append_none [] = refl
 append_none (note ∷ notes) = ap (λ list. note ∷ list) (append_none notes)
 
-merged_none : (notes : List Note) → merged notes [] ≡ notes
+merged_none : (notes : List Note) → merged_notes notes [] ≡ notes
 merged_none [] = refl
 merged_none (note ∷ notes) = refl
 
@@ -72,36 +72,36 @@ module _ (lines others all : List Line) (at other : ℕ) where
       ∙ ap (λ list. list ++ map note_of (drop other others)) (map_drop lines at)
       ∙ ap (λ list. drop at (map note_of lines) ++ list) (map_drop others other))
 
-  pub rest_others : length lines ≤ at → map note_of ((all ++ drop at lines) ++ drop other others) ≡ map note_of all ++ merged (drop at (map note_of lines)) (drop other (map note_of others))
+  pub rest_others : length lines ≤ at → map note_of ((all ++ drop at lines) ++ drop other others) ≡ map note_of all ++ merged_notes (drop at (map note_of lines)) (drop other (map note_of others))
   rest_others end =
       rest ∙ ap (λ list. map note_of all ++ (list ++ drop other (map note_of others))) (nothing_left lines at end)
-      ∙ ap (λ list. map note_of all ++ merged list (drop other (map note_of others))) (sym (nothing_left lines at end))
+      ∙ ap (λ list. map note_of all ++ merged_notes list (drop other (map note_of others))) (sym (nothing_left lines at end))
 
-  pub rest_lines : length others ≤ other → map note_of ((all ++ drop at lines) ++ drop other others) ≡ map note_of all ++ merged (drop at (map note_of lines)) (drop other (map note_of others))
+  pub rest_lines : length others ≤ other → map note_of ((all ++ drop at lines) ++ drop other others) ≡ map note_of all ++ merged_notes (drop at (map note_of lines)) (drop other (map note_of others))
   rest_lines end =
       rest ∙ ap (λ list. map note_of all ++ (drop at (map note_of lines) ++ list)) (nothing_left others other end)
       ∙ ap (λ list. map note_of all ++ list) (sym (append_none (drop at (map note_of lines))) ∙ sym (merged_none (drop at (map note_of lines))))
-      ∙ ap (λ list. map note_of all ++ merged (drop at (map note_of lines)) list) (sym (nothing_left others other end))
+      ∙ ap (λ list. map note_of all ++ merged_notes (drop at (map note_of lines)) list) (sym (nothing_left others other end))
 
 module _ (lines others all : List Line) (at other : ℕ) (d e : Line) (within : at < length lines) (other_within : other < length others) where
   pub step : (get_or lines at d).place < (get_or others other e).place
-      → map note_of all ++ merged (drop at (map note_of lines)) (drop other (map note_of others))
-      ≡ map note_of (all ++ get_or lines at d ∷ []) ++ merged (drop (at + 1) (map note_of lines)) (drop other (map note_of others))
+      → map note_of all ++ merged_notes (drop at (map note_of lines)) (drop other (map note_of others))
+      ≡ map note_of (all ++ get_or lines at d ∷ []) ++ merged_notes (drop (at + 1) (map note_of lines)) (drop other (map note_of others))
   step before =
       ap (λ list. map note_of all ++ list)
-      (ap (λ list. merged list (drop other (map note_of others))) (from_line lines at d within)
-      ∙ ap (merged (note_of (get_or lines at d) ∷ drop (at + 1) (map note_of lines))) (from_line others other e other_within)
+      (ap (λ list. merged_notes list (drop other (map note_of others))) (from_line lines at d within)
+      ∙ ap (merged_notes (note_of (get_or lines at d) ∷ drop (at + 1) (map note_of lines))) (from_line others other e other_within)
       ∙ takes (note_of (get_or lines at d)) (note_of (get_or others other e)) (drop (at + 1) (map note_of lines)) (drop (other + 1) (map note_of others)) before
-      ∙ ap (λ list. note_of (get_or lines at d) ∷ merged (drop (at + 1) (map note_of lines)) list) (sym (from_line others other e other_within)))
-      ∙ pushed all (get_or lines at d) (merged (drop (at + 1) (map note_of lines)) (drop other (map note_of others)))
+      ∙ ap (λ list. note_of (get_or lines at d) ∷ merged_notes (drop (at + 1) (map note_of lines)) list) (sym (from_line others other e other_within)))
+      ∙ pushed all (get_or lines at d) (merged_notes (drop (at + 1) (map note_of lines)) (drop other (map note_of others)))
 
   pub step_other : (get_or others other e).place ≤ (get_or lines at d).place
-      → map note_of all ++ merged (drop at (map note_of lines)) (drop other (map note_of others))
-      ≡ map note_of (all ++ get_or others other e ∷ []) ++ merged (drop at (map note_of lines)) (drop (other + 1) (map note_of others))
+      → map note_of all ++ merged_notes (drop at (map note_of lines)) (drop other (map note_of others))
+      ≡ map note_of (all ++ get_or others other e ∷ []) ++ merged_notes (drop at (map note_of lines)) (drop (other + 1) (map note_of others))
   step_other before =
       ap (λ list. map note_of all ++ list)
-      (ap (λ list. merged list (drop other (map note_of others))) (from_line lines at d within)
-      ∙ ap (merged (note_of (get_or lines at d) ∷ drop (at + 1) (map note_of lines))) (from_line others other e other_within)
+      (ap (λ list. merged_notes list (drop other (map note_of others))) (from_line lines at d within)
+      ∙ ap (merged_notes (note_of (get_or lines at d) ∷ drop (at + 1) (map note_of lines))) (from_line others other e other_within)
       ∙ takes_other (note_of (get_or lines at d)) (note_of (get_or others other e)) (drop (at + 1) (map note_of lines)) (drop (other + 1) (map note_of others)) before
-      ∙ ap (λ list. note_of (get_or others other e) ∷ merged list (drop (other + 1) (map note_of others))) (sym (from_line lines at d within)))
-      ∙ pushed all (get_or others other e) (merged (drop at (map note_of lines)) (drop (other + 1) (map note_of others)))
+      ∙ ap (λ list. note_of (get_or others other e) ∷ merged_notes list (drop (other + 1) (map note_of others))) (sym (from_line lines at d within)))
+      ∙ pushed all (get_or others other e) (merged_notes (drop at (map note_of lines)) (drop (other + 1) (map note_of others)))

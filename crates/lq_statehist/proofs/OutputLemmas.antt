@@ -9,16 +9,16 @@ use Rattle.lq_events.specs.declared.log_entry.LogEntry.{LogEntry}
 use Rattle.lq_log.specs.Told.{object_of, told_by}
 use Rattle.lq_log.specs.declared.telling.Told.{Told}
 use Rattle.lq_log.specs.declared.telling.Told.TheVariants as told
-use Rattle.lq_statehist.specs.Facts.{Known, known_at, last_said, line_in, output_in, up_to}
-use Rattle.lq_statehist.specs.Laws.{HaveOutputs, output_at}
+use Rattle.lq_statehist.specs.Facts.{Known, known_at, last_said, line_fact, output_in, up_to}
+use Rattle.lq_statehist.specs.Laws.{HaveOutputs, output_of_line}
 use Rattle.lq_statehist.specs.Notes.{Note, Said, State, Downtime, Flapping, Period, note_at, notes_of, said_as}
-use Rattle.lq_statehist.specs.Tiling.{Piece, joined, pieces_of, same_facts, second_piece}
+use Rattle.lq_statehist.specs.Tiling.{HistoryPiece, with_piece_before, pieces_between, same_facts, second_piece}
 use Rattle.lq_statehist.proofs.JoinLemmas.{no_pieces, pieces_next}
 
 -- ---- what a line says of a state has its output
 
 abbrev Fits : List LogEntry → ℕ → Said → Type 0
-Fits log place (State object state output) = output_at log (Some place) ≡ output
+Fits log place (State object state output) = output_of_line log (Some place) ≡ output
 Fits log place _ = Unit {0}
 
 abbrev FitsNote : List LogEntry → Note → Type 0
@@ -54,27 +54,27 @@ kept_fit log keeps (note ∷ notes) all = either (keeps note) (kept_fit log keep
 -- ---- the last line that tells a state, and its output
 
 module _ (log : List LogEntry) (about : Object) where
-  said_next : (time place : ℕ) (said : Said) (line : Option ℕ) (output : List ℕ) → Fits log place said → output_at log line ≡ output
-      → output_at log (unwrap_or (line_in about (record { time = time; place = place; said = said }) said) line) ≡ unwrap_or (output_in about said) output
+  said_next : (time place : ℕ) (said : Said) (line : Option ℕ) (output : List ℕ) → Fits log place said → output_of_line log line ≡ output
+      → output_of_line log (unwrap_or (line_fact about (record { time = time; place = place; said = said }) said) line) ≡ unwrap_or (output_in about said) output
   said_next time place (State object state told) line output fits is = either (is_same_object about object)
     where
-      either : (same : Bool) → output_at log (unwrap_or (if same then Some (Some place) else None) line) ≡ unwrap_or (if same then Some told else None) output
+      either : (same : Bool) → output_of_line log (unwrap_or (if same then Some (Some place) else None) line) ≡ unwrap_or (if same then Some told else None) output
       either true = fits
       either false = is
   said_next time place (Downtime object on) line output fits is = is
   said_next time place (Flapping object on) line output fits is = is
   said_next time place (Period name on) line output fits is = is
 
-  last_fits : (notes : List Note) (line : Option ℕ) (output : List ℕ) → AllByRecursion (FitsNote log) notes → output_at log line ≡ output
-      → output_at log (last_said (λ note. line_in about note note.said) line notes) ≡ last_said (λ note. output_in about note.said) output notes
+  last_fits : (notes : List Note) (line : Option ℕ) (output : List ℕ) → AllByRecursion (FitsNote log) notes → output_of_line log line ≡ output
+      → output_of_line log (last_said (λ note. line_fact about note note.said) line notes) ≡ last_said (λ note. output_in about note.said) output notes
   last_fits [] line output all is = is
   last_fits (note ∷ notes) line output all is =
-      last_fits notes (unwrap_or (line_in about note note.said) line) (unwrap_or (output_in about note.said) output) all.1
+      last_fits notes (unwrap_or (line_fact about note note.said) line) (unwrap_or (output_in about note.said) output) all.1
       (said_next note.time note.place note.said line output all.0 is)
 
 -- ---- pieces
 
-joined_all : (P : Known → Type 0) (piece : Piece) (pieces : List Piece) → P piece.known → AllByRecursion (λ other. P other.known) pieces → AllByRecursion (λ other. P other.known) (joined piece pieces)
+joined_all : (P : Known → Type 0) (piece : HistoryPiece) (pieces : List HistoryPiece) → P piece.known → AllByRecursion (λ other. P other.known) pieces → AllByRecursion (λ other. P other.known) (with_piece_before piece pieces)
 joined_all P piece [] is all = (is, tt)
 joined_all P piece (next ∷ pieces) is all = either (same_facts piece.known.facts next.known.facts)
   where
@@ -82,15 +82,15 @@ joined_all P piece (next ∷ pieces) is all = either (same_facts piece.known.fac
     either true = (is, all.1)
     either false = (is, all)
 
-pieces_all : (P : Known → Type 0) (at : ℕ → Known) → ((second : ℕ) → P (at second)) → (count from until : ℕ) → until - from ≡ count → AllByRecursion (λ piece. P piece.known) (pieces_of at from until)
+pieces_all : (P : Known → Type 0) (at : ℕ → Known) → ((second : ℕ) → P (at second)) → (count from until : ℕ) → until - from ≡ count → AllByRecursion (λ piece. P piece.known) (pieces_between at from until)
 pieces_all P at is zero from until left = subst (AllByRecursion (λ piece. P piece.known)) (sym (no_pieces at from until (omega (arith, left)))) tt
 pieces_all P at is (suc count) from until left =
     subst (AllByRecursion (λ piece. P piece.known)) (sym (pieces_next at from until (omega (arith, left))))
-    (joined_all P (second_piece at from) (pieces_of at (from + 1) until) (is from) (pieces_all P at is count (from + 1) until (omega (arith, left))))
+    (joined_all P (second_piece at from) (pieces_between at (from + 1) until) (is from) (pieces_all P at is count (from + 1) until (omega (arith, left))))
 
 pub have_outputs : HaveOutputs
 have_outputs base about log from until =
-    pieces_all (λ known. output_at log known.line ≡ known.facts.output) (known_at about (notes_of base log))
+    pieces_all (λ known. output_of_line log known.line ≡ known.facts.output) (known_at about (notes_of base log))
     (λ second. last_fits log about.object (up_to second (notes_of base log)) None []
     (kept_fit log _ (notes_of base log) (notes_fit base log log 0 (λ i. ap (slice_get log) (omega arith)))) refl)
     (until - from) from until refl

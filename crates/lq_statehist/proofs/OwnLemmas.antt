@@ -13,11 +13,11 @@ use Rattle.lq_log.specs.Told.{object_of, told_as, told_by}
 use Rattle.lq_log.specs.declared.telling.Told.{Told}
 use Rattle.lq_log.specs.declared.telling.Told.TheVariants as told
 use Rattle.lq_auth.specs.Lines.{is_transition}
-use Rattle.lq_statehist.specs.Facts.{Facts, Known, Subject, down_in, downtime_in, flapping_in, known_at, last_said, output_in, period_in, state_in, up_to}
-use Rattle.lq_statehist.specs.Laws.{IsOwnHistory, Shown, concerns, is_about, shown}
+use Rattle.lq_statehist.specs.Facts.{Facts, Known, Subject, down_in, downtime_fact, flapping_fact, known_at, last_said, output_in, period_fact, state_in, up_to}
+use Rattle.lq_statehist.specs.Laws.{IsOwnHistory, Shown, concerns, is_about, shown_piece}
 use Rattle.lq_statehist.specs.Notes.{Note, Said, State, Downtime, Flapping, Period, note_at, notes_of, said_as, said_by}
-use Rattle.lq_statehist.specs.Sorted.{object_in}
-use Rattle.lq_statehist.specs.Tiling.{Piece, joined, pieces_of, same_facts, second_piece}
+use Rattle.lq_statehist.specs.Sorted.{object_of_said}
+use Rattle.lq_statehist.specs.Tiling.{HistoryPiece, with_piece_before, pieces_between, same_facts, second_piece}
 use Rattle.lq_statehist.proofs.JoinLemmas.{no_pieces, pieces_next}
 use Rattle.lq_statehist.proofs.SortedLemmas.{filter_commutes, kept_said}
 
@@ -25,7 +25,7 @@ use Rattle.lq_statehist.proofs.SortedLemmas.{filter_commutes, kept_said}
 
 -- nothing is said by what is about another object or about none
 abbrev SpeaksOf : {A : Type 0} → Object → (Said → Option A) → Type 0
-SpeaksOf about says = (said : Said) → option_map_or (is_same_object about) (object_in said) false ≡ false → says said ≡ None
+SpeaksOf about says = (said : Said) → option_map_or (is_same_object about) (object_of_said said) false ≡ false → says said ≡ None
 
 state_speaks : (about : Object) → SpeaksOf about (state_in about)
 state_speaks about (State found state output) other = rw other refl
@@ -45,13 +45,13 @@ down_speaks about (Downtime found on) other = refl
 down_speaks about (Flapping found on) other = refl
 down_speaks about (Period name on) other = refl
 
-downtime_speaks : (about : Object) → SpeaksOf about (downtime_in about)
+downtime_speaks : (about : Object) → SpeaksOf about (downtime_fact about)
 downtime_speaks about (State found state output) other = refl
 downtime_speaks about (Downtime found on) other = rw other refl
 downtime_speaks about (Flapping found on) other = refl
 downtime_speaks about (Period name on) other = refl
 
-flapping_speaks : (about : Object) → SpeaksOf about (flapping_in about)
+flapping_speaks : (about : Object) → SpeaksOf about (flapping_fact about)
 flapping_speaks about (State found state output) other = refl
 flapping_speaks about (Downtime found on) other = refl
 flapping_speaks about (Flapping found on) other = rw other refl
@@ -74,7 +74,7 @@ quiet says about speaks entry (Some object) (Some (told.Flapping on)) other = sp
 quiet says about speaks entry found (Some (told.Period on)) other = speaks (Period _ on) refl
 
 quiet_kind : (period : List ℕ) (entry : LogEntry) (found : Option Object) (is : Kind) → is_transition is ≡ false
-    → option_and_then (period_in period) (option_and_then (said_as entry found) (told_as entry is)) ≡ None
+    → option_and_then (period_fact period) (option_and_then (said_as entry found) (told_as entry is)) ≡ None
 quiet_kind period entry found (kind.TimeperiodTransition name from to) far = absurd (true≢false far)
 quiet_kind period entry None _ far = refl
 quiet_kind period entry (Some object) _ far = refl
@@ -170,9 +170,9 @@ module _ (base : Base) (about : Subject) (xs ys : List LogEntry) (same : filter 
       lines_agree says base second (concerns base about) (λ entry far. quiet says (object.Host about.host) speaks entry (object_of base entry) (told_by entry) (no_host entry far)) xs ys same known
 
   period_agrees : (second : ℕ) (known : Bool)
-      → last_said (λ note. period_in about.period note.said) known (up_to second (notes_of base xs)) ≡ last_said (λ note. period_in about.period note.said) known (up_to second (notes_of base ys))
+      → last_said (λ note. period_fact about.period note.said) known (up_to second (notes_of base xs)) ≡ last_said (λ note. period_fact about.period note.said) known (up_to second (notes_of base ys))
   period_agrees second known =
-      lines_agree (period_in about.period) base second (concerns base about) (λ entry far. quiet_kind about.period entry (object_of base entry) entry.kind
+      lines_agree (period_fact about.period) base second (concerns base about) (λ entry far. quiet_kind about.period entry (object_of base entry) entry.kind
       (or_third (is_about base about.object entry) (is_about base (object.Host about.host) entry) (is_transition entry.kind) far)) xs ys same known
 
   facts_agree : (second : ℕ) → (known_at about (notes_of base xs) second).facts ≡ (known_at about (notes_of base ys) second).facts
@@ -180,50 +180,50 @@ module _ (base : Base) (about : Subject) (xs ys : List LogEntry) (same : filter 
     agree (state_in about.object) (state_speaks about.object) second (negsuc 0),
     agree (output_in about.object) (output_speaks about.object) second [],
     host_agrees (down_in (object.Host about.host)) (down_speaks (object.Host about.host)) second false,
-    agree (downtime_in about.object) (downtime_speaks about.object) second false,
-    host_agrees (downtime_in (object.Host about.host)) (downtime_speaks (object.Host about.host)) second false,
-    agree (flapping_in about.object) (flapping_speaks about.object) second false,
+    agree (downtime_fact about.object) (downtime_speaks about.object) second false,
+    host_agrees (downtime_fact (object.Host about.host)) (downtime_speaks (object.Host about.host)) second false,
+    agree (flapping_fact about.object) (flapping_speaks about.object) second false,
     period_agrees second true,
   ) refl
 
 -- ---- pieces
 
-shown_same : (p q : Piece) → shown p ≡ shown q → p.known.facts ≡ q.known.facts
+shown_same : (p q : HistoryPiece) → shown_piece p ≡ shown_piece q → p.known.facts ≡ q.known.facts
 shown_same p q same = ap (λ piece. piece.facts) same
 
 abbrev made : ℕ → ℕ → Facts → Shown
 made from until facts = record { from = from; until = until; facts = facts }
 
-grown : (is : Bool) (p q a b : Piece) (ps qs : List Piece) → shown p ≡ shown q → shown a ≡ shown b → map shown ps ≡ map shown qs
-    → map shown (if is then record p { until = a.until } ∷ ps else p ∷ a ∷ ps) ≡ map shown (if is then record q { until = b.until } ∷ qs else q ∷ b ∷ qs)
+grown : (is : Bool) (p q a b : HistoryPiece) (ps qs : List HistoryPiece) → shown_piece p ≡ shown_piece q → shown_piece a ≡ shown_piece b → map shown_piece ps ≡ map shown_piece qs
+    → map shown_piece (if is then record p { until = a.until } ∷ ps else p ∷ a ∷ ps) ≡ map shown_piece (if is then record q { until = b.until } ∷ qs else q ∷ b ∷ qs)
 grown true p q a b ps qs same next later =
-    ap (λ (piece : Shown). made piece.from a.until piece.facts ∷ map shown ps) same
-    ∙ ap (λ (piece : Shown). made q.from piece.until q.known.facts ∷ map shown ps) next
+    ap (λ (piece : Shown). made piece.from a.until piece.facts ∷ map shown_piece ps) same
+    ∙ ap (λ (piece : Shown). made q.from piece.until q.known.facts ∷ map shown_piece ps) next
     ∙ ap (λ list. made q.from b.until q.known.facts ∷ list) later
 grown false p q a b ps qs same next later =
-    ap (λ piece. piece ∷ shown a ∷ map shown ps) same ∙ ap (λ piece. shown q ∷ piece ∷ map shown ps) next ∙ ap (λ list. shown q ∷ shown b ∷ list) later
+    ap (λ piece. piece ∷ shown_piece a ∷ map shown_piece ps) same ∙ ap (λ piece. shown_piece q ∷ piece ∷ map shown_piece ps) next ∙ ap (λ list. shown_piece q ∷ shown_piece b ∷ list) later
 
-joined_shown : (p q : Piece) (ps qs : List Piece) → shown p ≡ shown q → map shown ps ≡ map shown qs → map shown (joined p ps) ≡ map shown (joined q qs)
+joined_shown : (p q : HistoryPiece) (ps qs : List HistoryPiece) → shown_piece p ≡ shown_piece q → map shown_piece ps ≡ map shown_piece qs → map shown_piece (with_piece_before p ps) ≡ map shown_piece (with_piece_before q qs)
 joined_shown p q [] [] same later = ap (λ piece. piece ∷ []) same
 joined_shown p q [] (b ∷ qs) same later = absurd (omega (arith, ap length later))
 joined_shown p q (a ∷ ps) [] same later = absurd (omega (arith, ap length later))
 joined_shown p q (a ∷ ps) (b ∷ qs) same later =
-    let next : shown a ≡ shown b = ap (λ list. get_or list 0 (shown a)) later in
-    let rest : map shown ps ≡ map shown qs = ap (drop 1) later in
+    let next : shown_piece a ≡ shown_piece b = ap (λ list. get_or list 0 (shown_piece a)) later in
+    let rest : map shown_piece ps ≡ map shown_piece qs = ap (drop 1) later in
     grown (same_facts p.known.facts a.known.facts) p q a b ps qs same next rest
-    ∙ ap (λ is. map shown (if is then record q { until = b.until } ∷ qs else q ∷ b ∷ qs))
+    ∙ ap (λ is. map shown_piece (if is then record q { until = b.until } ∷ qs else q ∷ b ∷ qs))
     (ap (λ facts. same_facts facts a.known.facts) (shown_same p q same) ∙ ap (same_facts q.known.facts) (shown_same a b next))
 
 pieces_shown : (at bt : ℕ → Known) → ((second : ℕ) → (at second).facts ≡ (bt second).facts) → (count from until : ℕ) → until - from ≡ count
-    → map shown (pieces_of at from until) ≡ map shown (pieces_of bt from until)
+    → map shown_piece (pieces_between at from until) ≡ map shown_piece (pieces_between bt from until)
 pieces_shown at bt same zero from until left =
-    ap (map shown) (no_pieces at from until (omega (arith, left)) ∙ sym (no_pieces bt from until (omega (arith, left))))
+    ap (map shown_piece) (no_pieces at from until (omega (arith, left)) ∙ sym (no_pieces bt from until (omega (arith, left))))
 pieces_shown at bt same (suc count) from until left =
     let some : from < until = omega (arith, left) in
-    ap (map shown) (pieces_next at from until some)
-    ∙ joined_shown (second_piece at from) (second_piece bt from) (pieces_of at (from + 1) until) (pieces_of bt (from + 1) until)
+    ap (map shown_piece) (pieces_next at from until some)
+    ∙ joined_shown (second_piece at from) (second_piece bt from) (pieces_between at (from + 1) until) (pieces_between bt (from + 1) until)
     (ap (λ facts. record { from = from; until = from + 1; facts = facts }) (same from)) (pieces_shown at bt same count (from + 1) until (omega (arith, left)))
-    ∙ ap (map shown) (sym (pieces_next bt from until some))
+    ∙ ap (map shown_piece) (sym (pieces_next bt from until some))
 
 pub own_history : IsOwnHistory
 own_history base about xs ys same from until =

@@ -3,11 +3,11 @@ use Rattle.std.proofs.Common.{◌≡◌, ℕ, ℤ, negsuc, unwrap_or, suc, ◌+�
 use Rattle.std.proofs.lemmas.Bool.Decides.{nat_tests}
 use Rattle.lq_records.specs.declared.object.Object.{Object}
 use Rattle.lq_records.specs.declared.object.Object.TheVariants as object
-use Rattle.lq_statehist.specs.Facts.{Known, Subject, down_in, downtime_in, flapping_in, known_after, known_at, last_said, line_in, output_in, period_in, state_in, up_to}
+use Rattle.lq_statehist.specs.Facts.{Known, Subject, down_in, downtime_fact, flapping_fact, known_after, known_at, last_said, line_fact, output_in, period_fact, state_in, up_to}
 use Rattle.lq_statehist.specs.History.{slice_of}
 use Rattle.lq_statehist.specs.Notes.{Note}
-use Rattle.lq_statehist.specs.Pass.{IsHeld, RisesFrom, all_noted, before, noted, unknown}
-use Rattle.lq_statehist.specs.Tiling.{Piece, joined, pieces_of, same_facts}
+use Rattle.lq_statehist.specs.Pass.{IsKnownThroughout, RisesFrom, all_noted, before, known_after_note, unknown}
+use Rattle.lq_statehist.specs.Tiling.{HistoryPiece, with_piece_before, pieces_between, same_facts}
 use Rattle.lq_statehist.specs.declared.slice.Slice.{Slice}
 use Rattle.lq_statehist.proofs.JoinLemmas.{joined_apart, joined_twice, stretch_to}
 
@@ -37,16 +37,16 @@ known_with state output down downtime host_downtime flapping period line = recor
 
 all_said : (about : Subject) (notes : List Note) (s : ℤ) (o : List ℕ) (a b c d e : Bool) (l : Option ℕ)
     → known_with (last_said (λ note. state_in about.object note.said) s notes) (last_said (λ note. output_in about.object note.said) o notes)
-    (last_said (λ note. down_in (object.Host about.host) note.said) a notes) (last_said (λ note. downtime_in about.object note.said) b notes)
-    (last_said (λ note. downtime_in (object.Host about.host) note.said) c notes) (last_said (λ note. flapping_in about.object note.said) d notes)
-    (last_said (λ note. period_in about.period note.said) e notes) (last_said (λ note. line_in about.object note note.said) l notes)
+    (last_said (λ note. down_in (object.Host about.host) note.said) a notes) (last_said (λ note. downtime_fact about.object note.said) b notes)
+    (last_said (λ note. downtime_fact (object.Host about.host) note.said) c notes) (last_said (λ note. flapping_fact about.object note.said) d notes)
+    (last_said (λ note. period_fact about.period note.said) e notes) (last_said (λ note. line_fact about.object note note.said) l notes)
     ≡ all_noted about (known_with s o a b c d e l) notes
 all_said about [] s o a b c d e l = refl
 all_said about (note ∷ notes) s o a b c d e l =
     all_said about notes (unwrap_or (state_in about.object note.said) s) (unwrap_or (output_in about.object note.said) o)
-    (unwrap_or (down_in (object.Host about.host) note.said) a) (unwrap_or (downtime_in about.object note.said) b)
-    (unwrap_or (downtime_in (object.Host about.host) note.said) c) (unwrap_or (flapping_in about.object note.said) d)
-    (unwrap_or (period_in about.period note.said) e) (unwrap_or (line_in about.object note note.said) l)
+    (unwrap_or (down_in (object.Host about.host) note.said) a) (unwrap_or (downtime_fact about.object note.said) b)
+    (unwrap_or (downtime_fact (object.Host about.host) note.said) c) (unwrap_or (flapping_fact about.object note.said) d)
+    (unwrap_or (period_fact about.period note.said) e) (unwrap_or (line_fact about.object note note.said) l)
 
 pub known_noted : (about : Subject) (notes : List Note) → known_after about notes ≡ all_noted about unknown notes
 known_noted about notes = all_said about notes (negsuc 0) [] false false false false true None
@@ -77,24 +77,24 @@ rises_from low first [] le rises = tt
 rises_from low first (note ∷ notes) le rises = (omega (arith, le, rises.0), rises.1)
 
 module _ (about : Subject) (all : List Note) (until since : ℕ) (known : Known) (note : Note) (left list : List Note) (next : list ≡ note ∷ left) (to : ℕ) (is : to ≡ min note.time until) where
-  pub held_before : IsLeft about all until known since list → RisesFrom 0 list → IsHeld (known_at about all) known since to
+  pub held_before : IsLeft about all until known since list → RisesFrom 0 list → IsKnownThroughout (known_at about all) known since to
   held_before tells rises = λ second after before.
       tells second after (omega (arith, before, is))
       ∙ ap (λ rest. all_noted about known (up_to second rest)) next
       ∙ ap (all_noted about known) (none_up_to note.time second (note ∷ left) (omega arith, (subst (RisesFrom 0) next rises).1) (omega (arith, before, is)))
 
-  pub left_after : (later : ℕ) (now found : Known) → found ≡ noted about now note → now ≡ known → IsLeft about all until known since list → since ≤ later → to ≤ later → IsLeft about all until found later left
+  pub left_after : (later : ℕ) (now found : Known) → found ≡ known_after_note about now note → now ≡ known → IsLeft about all until known since list → since ≤ later → to ≤ later → IsLeft about all until found later left
   left_after later now found finds same tells goes reached = λ second after before.
       tells second (omega (arith, goes, after)) before
       ∙ ap (λ rest. all_noted about known (up_to second rest)) next
       ∙ ap (all_noted about known) (note_up_to second note left (omega (arith, reached, after, before, is)))
-      ∙ ap (λ value. all_noted about (noted about value note) (up_to second left)) (sym same)
+      ∙ ap (λ value. all_noted about (known_after_note about value note) (up_to second left)) (sym same)
       ∙ ap (λ value. all_noted about value (up_to second left)) (sym finds)
 
   pub rises_after : RisesFrom 0 list → RisesFrom 0 left
   rises_after rises = rises_from 0 note.time left (omega arith) (subst (RisesFrom 0) next rises).1
 
-pub held_last : (about : Subject) (all list : List Note) (until since : ℕ) (known : Known) → list ≡ [] → IsLeft about all until known since list → IsHeld (known_at about all) known since until
+pub held_last : (about : Subject) (all list : List Note) (until since : ℕ) (known : Known) → list ≡ [] → IsLeft about all until known since list → IsKnownThroughout (known_at about all) known since until
 held_last about all list until since known none tells = λ second after before.
     tells second after before ∙ ap (λ rest. all_noted about known (up_to second rest)) none
 
@@ -112,34 +112,34 @@ map_some : {A B : Type 0} (f : A → B) (xs : List A) → 0 < length xs → 0 < 
 map_some f [] some = some
 map_some f (x ∷ xs) some = omega arith
 
-module _ (about : Object) (old new : List Slice) (last next : Piece) (later : List Piece) where
+module _ (about : Object) (old new : List Slice) (last next : HistoryPiece) (later : List HistoryPiece) where
   pub settled_same : same_facts last.known.facts next.known.facts ≡ true
-      → old ++ map (slice_of about) (joined (record { from = last.from; until = next.until; known = last.known }) later)
-      ≡ old ++ map (slice_of about) (joined last (joined next later))
+      → old ++ map (slice_of about) (with_piece_before (record { from = last.from; until = next.until; known = last.known }) later)
+      ≡ old ++ map (slice_of about) (with_piece_before last (with_piece_before next later))
   settled_same same = ap (λ pieces. old ++ map (slice_of about) pieces) (sym (joined_twice last next later same))
 
   pub settled_apart : same_facts last.known.facts next.known.facts ≡ false → new ≡ old ++ slice_of about last ∷ []
-      → new ++ map (slice_of about) (joined next later) ≡ old ++ map (slice_of about) (joined last (joined next later))
+      → new ++ map (slice_of about) (with_piece_before next later) ≡ old ++ map (slice_of about) (with_piece_before last (with_piece_before next later))
   settled_apart apart added =
-      ap (λ slices. slices ++ map (slice_of about) (joined next later)) added
-      ∙ append_assoc old (slice_of about last ∷ []) (map (slice_of about) (joined next later))
+      ap (λ slices. slices ++ map (slice_of about) (with_piece_before next later)) added
+      ∙ append_assoc old (slice_of about last ∷ []) (map (slice_of about) (with_piece_before next later))
       ∙ ap (λ pieces. old ++ map (slice_of about) pieces) (sym (joined_apart last next later apart))
 
   pub many_apart : same_facts last.known.facts next.known.facts ≡ false → 1000000 ≤ length old
-      → 1000000 < length (old ++ map (slice_of about) (joined last (joined next later)))
+      → 1000000 < length (old ++ map (slice_of about) (with_piece_before last (with_piece_before next later)))
   many_apart apart many =
       subst (λ pieces. 1000000 < length (old ++ map (slice_of about) pieces)) (sym (joined_apart last next later apart))
-      (omega (arith, many, long old (slice_of about last) (map (slice_of about) (joined next later))))
+      (omega (arith, many, long old (slice_of about last) (map (slice_of about) (with_piece_before next later))))
 
-pub many_last : (about : Object) (old : List Slice) (last : Piece) → 1000000 ≤ length old → 1000000 < length (old ++ slice_of about last ∷ [])
+pub many_last : (about : Object) (old : List Slice) (last : HistoryPiece) → 1000000 ≤ length old → 1000000 < length (old ++ slice_of about last ∷ [])
 many_last about old last many = omega (arith, many, long old (slice_of about last) [])
 
-module _ (about : Object) (at : ℕ → Known) (old new : List Slice) (growing : Option Piece) (known : Known) (since to until : ℕ) (some : since < to) (within : to ≤ until) (held : IsHeld at known since to) where
-  pub advanced : (grown : Option Piece)
-      → new ++ map (slice_of about) (before grown (pieces_of at to until)) ≡ old ++ map (slice_of about) (before growing (joined (record { from = since; until = to; known = known }) (pieces_of at to until)))
-      → new ++ map (slice_of about) (before grown (pieces_of at to until)) ≡ old ++ map (slice_of about) (before growing (pieces_of at since until))
+module _ (about : Object) (at : ℕ → Known) (old new : List Slice) (growing : Option HistoryPiece) (known : Known) (since to until : ℕ) (some : since < to) (within : to ≤ until) (held : IsKnownThroughout at known since to) where
+  pub advanced : (grown : Option HistoryPiece)
+      → new ++ map (slice_of about) (before grown (pieces_between at to until)) ≡ old ++ map (slice_of about) (before growing (with_piece_before (record { from = since; until = to; known = known }) (pieces_between at to until)))
+      → new ++ map (slice_of about) (before grown (pieces_between at to until)) ≡ old ++ map (slice_of about) (before growing (pieces_between at since until))
   advanced grown settled = settled ∙ ap (λ pieces. old ++ map (slice_of about) (before growing pieces)) (sym (stretch_to at known since to until some within held))
 
-  pub advanced_many : 1000000 < length (old ++ map (slice_of about) (before growing (joined (record { from = since; until = to; known = known }) (pieces_of at to until))))
-      → 1000000 < length (old ++ map (slice_of about) (before growing (pieces_of at since until)))
+  pub advanced_many : 1000000 < length (old ++ map (slice_of about) (before growing (with_piece_before (record { from = since; until = to; known = known }) (pieces_between at to until))))
+      → 1000000 < length (old ++ map (slice_of about) (before growing (pieces_between at since until)))
   advanced_many many = subst (λ pieces. 1000000 < length (old ++ map (slice_of about) (before growing pieces))) (sym (stretch_to at known since to until some within held)) many

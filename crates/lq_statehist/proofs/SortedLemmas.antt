@@ -11,11 +11,11 @@ use Rattle.lq_records.specs.declared.object.Object.{Object}
 use Rattle.lq_records.specs.declared.object.Object.TheVariants as object
 use Rattle.lq_events.specs.declared.log_entry.LogEntry.{LogEntry}
 use Rattle.lq_log.specs.Book.{InOrderAfter}
-use Rattle.lq_statehist.specs.Facts.{Subject, down_in, downtime_in, flapping_in, known_after, known_at, line_in, output_in, period_in, state_in, up_to}
+use Rattle.lq_statehist.specs.Facts.{Subject, down_in, downtime_fact, flapping_fact, known_after, known_at, line_fact, output_in, period_fact, state_in, up_to}
 use Rattle.lq_statehist.specs.History.{history, slice_of}
 use Rattle.lq_statehist.specs.Notes.{Note, Said, State, Downtime, Flapping, Period, note_at, said_by}
 use Rattle.lq_statehist.specs.Pass.{RisesFrom}
-use Rattle.lq_statehist.specs.Sorted.{IsHosted, PlacesFrom, below, host_of, is_near, is_of_host, is_of_period, is_on, merged}
+use Rattle.lq_statehist.specs.Sorted.{IsHosted, PlacesFrom, below, host_about, is_near, is_of_host, is_of_period, is_on, merged_notes}
 use Rattle.lq_statehist.specs.declared.notes.Notes.{Notes}
 use Rattle.lq_statehist.proofs.JoinLemmas.{same_pieces}
 
@@ -65,9 +65,9 @@ module _ {X A : Type 0} (says : X → Option A) (keeps : X → Bool) (none : (no
   kept_said [] known = refl
   kept_said (note ∷ notes) known = said_step note notes known (keeps note) refl (kept_said notes)
 
-same_host : (base : Base) (a b : Object) → is_same_object a b ≡ true → host_of base a ≡ host_of base b
+same_host : (base : Base) (a b : Object) → is_same_object a b ≡ true → host_about base a ≡ host_about base b
 same_host base (object.Host a) (object.Host b) same = ap (λ n. Some (record { 0 = n })) (eqb-true a.0 b.0 same)
-same_host base (object.Service a) (object.Service b) same = ap (λ n. host_of base (object.Service (record { 0 = n }))) (eqb-true a.0 b.0 same)
+same_host base (object.Service a) (object.Service b) same = ap (λ n. host_about base (object.Service (record { 0 = n }))) (eqb-true a.0 b.0 same)
 same_host base (object.Host a) (object.Service b) same = absurd (true≢false (sym same))
 same_host base (object.Service a) (object.Host b) same = absurd (true≢false (sym same))
 
@@ -110,7 +110,7 @@ module _ (base : Base) (about : Subject) (has : IsHosted base about) where
   no_output time place (Period name on) is = refl
 
   no_line : (time place : ℕ) (said : Said) → is_near base about (record { time = time; place = place; said = said }) ≡ false
-      → line_in about.object (record { time = time; place = place; said = said }) said ≡ None
+      → line_fact about.object (record { time = time; place = place; said = said }) said ≡ None
   no_line time place (State found state output) is = rw (far found is) refl
   no_line time place (Downtime found on) is = refl
   no_line time place (Flapping found on) is = refl
@@ -122,25 +122,25 @@ module _ (base : Base) (about : Subject) (has : IsHosted base about) where
   no_down time place (Flapping found on) is = refl
   no_down time place (Period name on) is = refl
 
-  no_downtime : (time place : ℕ) (said : Said) → is_near base about (record { time = time; place = place; said = said }) ≡ false → downtime_in about.object said ≡ None
+  no_downtime : (time place : ℕ) (said : Said) → is_near base about (record { time = time; place = place; said = said }) ≡ false → downtime_fact about.object said ≡ None
   no_downtime time place (State found state output) is = refl
   no_downtime time place (Downtime found on) is = rw (far found is) refl
   no_downtime time place (Flapping found on) is = refl
   no_downtime time place (Period name on) is = refl
 
-  no_host_downtime : (time place : ℕ) (said : Said) → is_near base about (record { time = time; place = place; said = said }) ≡ false → downtime_in (object.Host about.host) said ≡ None
+  no_host_downtime : (time place : ℕ) (said : Said) → is_near base about (record { time = time; place = place; said = said }) ≡ false → downtime_fact (object.Host about.host) said ≡ None
   no_host_downtime time place (State found state output) is = refl
   no_host_downtime time place (Downtime found on) is = rw (far_host found is) refl
   no_host_downtime time place (Flapping found on) is = refl
   no_host_downtime time place (Period name on) is = refl
 
-  no_flapping : (time place : ℕ) (said : Said) → is_near base about (record { time = time; place = place; said = said }) ≡ false → flapping_in about.object said ≡ None
+  no_flapping : (time place : ℕ) (said : Said) → is_near base about (record { time = time; place = place; said = said }) ≡ false → flapping_fact about.object said ≡ None
   no_flapping time place (State found state output) is = refl
   no_flapping time place (Downtime found on) is = refl
   no_flapping time place (Flapping found on) is = rw (far found is) refl
   no_flapping time place (Period name on) is = refl
 
-  no_period : (time place : ℕ) (said : Said) → is_near base about (record { time = time; place = place; said = said }) ≡ false → period_in about.period said ≡ None
+  no_period : (time place : ℕ) (said : Said) → is_near base about (record { time = time; place = place; said = said }) ≡ false → period_fact about.period said ≡ None
   no_period time place (State found state output) is = refl
   no_period time place (Downtime found on) is = refl
   no_period time place (Flapping found on) is = refl
@@ -151,11 +151,11 @@ module _ (base : Base) (about : Subject) (has : IsHosted base about) where
     kept_said (λ note. state_in about.object note.said) (is_near base about) (λ note is. no_state note.time note.place note.said is) notes (negsuc 0),
     kept_said (λ note. output_in about.object note.said) (is_near base about) (λ note is. no_output note.time note.place note.said is) notes [],
     kept_said (λ note. down_in (object.Host about.host) note.said) (is_near base about) (λ note is. no_down note.time note.place note.said is) notes false,
-    kept_said (λ note. downtime_in about.object note.said) (is_near base about) (λ note is. no_downtime note.time note.place note.said is) notes false,
-    kept_said (λ note. downtime_in (object.Host about.host) note.said) (is_near base about) (λ note is. no_host_downtime note.time note.place note.said is) notes false,
-    kept_said (λ note. flapping_in about.object note.said) (is_near base about) (λ note is. no_flapping note.time note.place note.said is) notes false,
-    kept_said (λ note. period_in about.period note.said) (is_near base about) (λ note is. no_period note.time note.place note.said is) notes true,
-    kept_said (λ note. line_in about.object note note.said) (is_near base about) (λ note is. no_line note.time note.place note.said is) notes None,
+    kept_said (λ note. downtime_fact about.object note.said) (is_near base about) (λ note is. no_downtime note.time note.place note.said is) notes false,
+    kept_said (λ note. downtime_fact (object.Host about.host) note.said) (is_near base about) (λ note is. no_host_downtime note.time note.place note.said is) notes false,
+    kept_said (λ note. flapping_fact about.object note.said) (is_near base about) (λ note is. no_flapping note.time note.place note.said is) notes false,
+    kept_said (λ note. period_fact about.period note.said) (is_near base about) (λ note is. no_period note.time note.place note.said is) notes true,
+    kept_said (λ note. line_fact about.object note note.said) (is_near base about) (λ note is. no_line note.time note.place note.said is) notes None,
   ) refl
 
   known_near : (until : ℕ) (all : List Note) (second : ℕ) → second < until → known_at about (filter (is_near base about) (below until all)) second ≡ known_at about all second
@@ -222,18 +222,18 @@ filter_placed keeps low (note ∷ notes) rises = places_step keeps low note note
 
 -- ---- two lists in the order of the log
 
-merged_none : (notes : List Note) → merged notes [] ≡ notes
+merged_none : (notes : List Note) → merged_notes notes [] ≡ notes
 merged_none [] = refl
 merged_none (note ∷ notes) = refl
 
 -- a note that stands before all others comes first, in whichever list it is
-first_left : (note : Note) (notes others : List Note) → PlacesFrom (note.place + 1) others → merged (note ∷ notes) others ≡ note ∷ merged notes others
+first_left : (note : Note) (notes others : List Note) → PlacesFrom (note.place + 1) others → merged_notes (note ∷ notes) others ≡ note ∷ merged_notes notes others
 first_left note notes [] placed = ap (λ list. note ∷ list) (sym (merged_none notes))
 first_left note notes (other ∷ others) placed =
     let is : nat_lt note.place other.place ≡ true = grind (arith, nat_tests, placed.0) in
     rw is refl
 
-first_right : (note : Note) (notes others : List Note) → PlacesFrom (note.place + 1) others → merged others (note ∷ notes) ≡ note ∷ merged others notes
+first_right : (note : Note) (notes others : List Note) → PlacesFrom (note.place + 1) others → merged_notes others (note ∷ notes) ≡ note ∷ merged_notes others notes
 first_right note notes [] placed = refl
 first_right note notes (other ∷ others) placed =
     let is : nat_lt other.place note.place ≡ false = grind (arith, nat_tests, placed.0) in
@@ -241,8 +241,8 @@ first_right note notes (other ∷ others) placed =
 
 module _ (p q : Note → Bool) (never : (note : Note) → p note ≡ true → q note ≡ false) where
   merged_step : (note : Note) (notes : List Note) (first second : Bool) → p note ≡ first → q note ≡ second → PlacesFrom (note.place + 1) notes
-      → merged (filter p notes) (filter q notes) ≡ filter (λ other. p other || q other) notes
-      → merged (filter p (note ∷ notes)) (filter q (note ∷ notes)) ≡ filter (λ other. p other || q other) (note ∷ notes)
+      → merged_notes (filter p notes) (filter q notes) ≡ filter (λ other. p other || q other) notes
+      → merged_notes (filter p (note ∷ notes)) (filter q (note ∷ notes)) ≡ filter (λ other. p other || q other) (note ∷ notes)
   merged_step note notes true true is also placed rest = absurd (true≢false (sym also ∙ never note is))
   merged_step note notes true false is also placed rest =
       rw (is, also) (first_left note (filter p notes) (filter q notes) (filter_placed q (note.place + 1) notes placed) ∙ ap (λ list. note ∷ list) rest)
@@ -250,7 +250,7 @@ module _ (p q : Note → Bool) (never : (note : Note) → p note ≡ true → q 
       rw (is, also) (first_right note (filter q notes) (filter p notes) (filter_placed p (note.place + 1) notes placed) ∙ ap (λ list. note ∷ list) rest)
   merged_step note notes false false is also placed rest = rw (is, also) rest
 
-  merged_filters : (low : ℕ) (notes : List Note) → PlacesFrom low notes → merged (filter p notes) (filter q notes) ≡ filter (λ other. p other || q other) notes
+  merged_filters : (low : ℕ) (notes : List Note) → PlacesFrom low notes → merged_notes (filter p notes) (filter q notes) ≡ filter (λ other. p other || q other) notes
   merged_filters low [] placed = refl
   merged_filters low (note ∷ notes) placed = merged_step note notes (p note) (q note) refl refl placed.1 (merged_filters (note.place + 1) notes placed.1)
 
@@ -262,7 +262,7 @@ host_or_period base host time place (Flapping found on) is = refl
 host_or_period base host time place (Period name on) is = absurd (true≢false (sym is))
 
 pub near_merged : (base : Base) (about : Subject) (low : ℕ) (told : List Note) → PlacesFrom low told
-    → merged (filter (is_of_host base about.host) told) (filter is_of_period told) ≡ filter (is_near base about) told
+    → merged_notes (filter (is_of_host base about.host) told) (filter is_of_period told) ≡ filter (is_near base about) told
 near_merged base about low told placed =
     merged_filters (is_of_host base about.host) is_of_period (λ note is. host_or_period base about.host note.time note.place note.said is) low told placed
 
@@ -274,7 +274,7 @@ at_place P (x ∷ items) zero d within is = is
 at_place P (x ∷ items) (suc at) d within is = at_place P items at d (omega (arith, within)) is
 
 -- the two lists that are kept, as one
-pub near_both : (base : Base) (notes : Notes) (about : Subject) (near kept others : List Note) (told : List Note) → near ≡ merged kept others
+pub near_both : (base : Base) (notes : Notes) (about : Subject) (near kept others : List Note) (told : List Note) → near ≡ merged_notes kept others
     → kept ≡ filter (is_of_host base about.host) told → others ≡ filter is_of_period told → PlacesFrom 0 told → near ≡ filter (is_near base about) told
 near_both base notes about near kept others told is of_host of_period placed =
-    is ∙ ap (λ list. merged list others) of_host ∙ ap (merged (filter (is_of_host base about.host) told)) of_period ∙ near_merged base about 0 told placed
+    is ∙ ap (λ list. merged_notes list others) of_host ∙ ap (merged_notes (filter (is_of_host base about.host) told)) of_period ∙ near_merged base about 0 told placed

@@ -15,7 +15,7 @@ use Rattle.lq_log.specs.Book.{InOrder}
 use Rattle.lq_statehist.specs.Facts.{Subject}
 use Rattle.lq_statehist.specs.History.{history}
 use Rattle.lq_statehist.specs.Notes.{Note, notes_of}
-use Rattle.lq_statehist.specs.Pass.{RisesFrom, subject_of}
+use Rattle.lq_statehist.specs.Pass.{RisesFrom, subject_of_lines}
 use Rattle.lq_statehist.specs.Slices.{host_subject, seen_subjects, service_subject, subjects_of}
 use Rattle.lq_statehist.specs.Sorted.{IsHosted, PlacesFrom, below, is_near}
 use Rattle.lq_statehist.specs.declared.slice.Slice.{Slice}
@@ -104,27 +104,27 @@ rest_hosted base subjects i all =
     subst (λ n. AllByRecursion (IsHosted base) (drop n subjects)) (sym next) (rest_of (IsHosted base) subjects i all)
 
 module _ (base : Base) (log : List LogEntry) (from until : ℕ) (subjects : List LineSubject) (i : ℕ) (d : LineSubject) (within : i < length subjects) where
-  next_subject : drop i (map subject_of subjects) ≡ subject_of (get_or subjects i d) ∷ drop (i + 1) (map subject_of subjects)
+  next_subject : drop i (map subject_of_lines subjects) ≡ subject_of_lines (get_or subjects i d) ∷ drop (i + 1) (map subject_of_lines subjects)
   next_subject =
-      from_place (map subject_of subjects) i (subject_of d) (omega (arith, within, length-map subjects subject_of))
-      ∙ ap (λ about. about ∷ drop (i + 1) (map subject_of subjects)) (get_or-map subject_of subjects i d (subject_of d) within)
+      from_place (map subject_of_lines subjects) i (subject_of_lines d) (omega (arith, within, length-map subjects subject_of_lines))
+      ∙ ap (λ about. about ∷ drop (i + 1) (map subject_of_lines subjects)) (get_or-map subject_of_lines subjects i d (subject_of_lines d) within)
 
-  pub this_hosted : AllByRecursion (IsHosted base) (drop i (map subject_of subjects)) → IsHosted base (subject_of (get_or subjects i d))
+  pub this_hosted : AllByRecursion (IsHosted base) (drop i (map subject_of_lines subjects)) → IsHosted base (subject_of_lines (get_or subjects i d))
   this_hosted all = (subst (AllByRecursion (IsHosted base)) next_subject all).0
 
   pub told_next : (old whole : List Slice)
-      → old ++ flat_map (λ about. history about (notes_of base log) from until) (drop i (map subject_of subjects)) ≡ whole
-      → (old ++ history (subject_of (get_or subjects i d)) (notes_of base log) from until) ++ flat_map (λ about. history about (notes_of base log) from until) (drop (i + 1) (map subject_of subjects)) ≡ whole
+      → old ++ flat_map (λ about. history about (notes_of base log) from until) (drop i (map subject_of_lines subjects)) ≡ whole
+      → (old ++ history (subject_of_lines (get_or subjects i d)) (notes_of base log) from until) ++ flat_map (λ about. history about (notes_of base log) from until) (drop (i + 1) (map subject_of_lines subjects)) ≡ whole
   told_next old whole is =
-      append_assoc old (history (subject_of (get_or subjects i d)) (notes_of base log) from until)
-      (flat_map (λ about. history about (notes_of base log) from until) (drop (i + 1) (map subject_of subjects)))
+      append_assoc old (history (subject_of_lines (get_or subjects i d)) (notes_of base log) from until)
+      (flat_map (λ about. history about (notes_of base log) from until) (drop (i + 1) (map subject_of_lines subjects)))
       ∙ ap (λ list. old ++ flat_map (λ about. history about (notes_of base log) from until) list) (sym next_subject) ∙ is
 
 pub many_more : (some more whole : List Slice) → some ++ more ≡ whole → 1000000 < length some → 1000000 < length whole
 many_more some more whole is many = omega (arith, many, ap length is, length-append some more)
 
 pub told_all : (old whole : List Slice) (told : Subject → List Slice) (subjects : List LineSubject) (i : ℕ) → length subjects ≤ i
-    → old ++ flat_map told (drop i (map subject_of subjects)) ≡ whole → old ≡ whole
+    → old ++ flat_map told (drop i (map subject_of_lines subjects)) ≡ whole → old ≡ whole
 told_all old whole told subjects i all is =
     append_none old ∙ ap (λ list. old ++ flat_map told list) (sym (none_left subjects i all)) ∙ is
   where
@@ -132,7 +132,7 @@ told_all old whole told subjects i all is =
     append_none [] = refl
     append_none (x ∷ xs) = ap (λ list. x ∷ list) (append_none xs)
 
-    none_left : (xs : List LineSubject) (i : ℕ) → length xs ≤ i → drop i (map subject_of xs) ≡ []
+    none_left : (xs : List LineSubject) (i : ℕ) → length xs ≤ i → drop i (map subject_of_lines xs) ≡ []
     none_left [] zero all = refl
     none_left [] (suc i) all = refl
     none_left (x ∷ xs) zero all = absurd (omega (arith, all))
@@ -140,14 +140,14 @@ told_all old whole told subjects i all is =
 
 -- the hosts and then the services that are seen
 pub both_seen : (base : Base) (view : View) (none hosts all : List LineSubject) (first : List Host) (second : List Service) → none ≡ [] → first ≡ base.hosts
-    → map subject_of hosts ≡ map subject_of none ++ filter (λ about. sees_object view about.object) (map host_subject (enumerate_from 0 first))
+    → map subject_of_lines hosts ≡ map subject_of_lines none ++ filter (λ about. sees_object view about.object) (map host_subject (enumerate_from 0 first))
     → second ≡ base.services
-    → map subject_of all ≡ map subject_of hosts ++ filter (λ about. sees_object view about.object) (map service_subject (enumerate_from 0 second))
-    → map subject_of all ≡ seen_subjects base view
+    → map subject_of_lines all ≡ map subject_of_lines hosts ++ filter (λ about. sees_object view about.object) (map service_subject (enumerate_from 0 second))
+    → map subject_of_lines all ≡ seen_subjects base view
 both_seen base view none hosts all first second empty is_first seen is_second also =
     also
     ∙ ap (λ list. list ++ filter (λ about. sees_object view about.object) (map service_subject (enumerate_from 0 second)))
-    (seen ∙ ap (λ list. map subject_of list ++ filter (λ about. sees_object view about.object) (map host_subject (enumerate_from 0 first))) empty
+    (seen ∙ ap (λ list. map subject_of_lines list ++ filter (λ about. sees_object view about.object) (map host_subject (enumerate_from 0 first))) empty
     ∙ ap (λ list. filter (λ about. sees_object view about.object) (map host_subject (enumerate_from 0 list))) is_first)
     ∙ ap (λ list. filter (λ about. sees_object view about.object) (map host_subject (enumerate_from 0 base.hosts)) ++ filter (λ about. sees_object view about.object) (map service_subject (enumerate_from 0 list))) is_second
     ∙ sym (filter-append (λ about. sees_object view about.object) (map host_subject (enumerate_from 0 base.hosts)) (map service_subject (enumerate_from 0 base.services)))

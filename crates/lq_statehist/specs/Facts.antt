@@ -1,5 +1,7 @@
 -- What a log tells of an object at a second.
-use Rattle.std.specs.Prelude.{ℕ, ℤ, pos, negsuc, ◌==◌, ◌&&◌, not, nat_le, Bool, true, false, Option, Some, None, List, [], length, filter, fold, bytes_eq, unwrap_or, if◌then◌else◌, int_lt}
+use Rattle.std.specs.Prelude.{ℕ, ℤ, pos, negsuc, ◌==◌, ◌&&◌, not, nat_le, Bool, true, false, Option}
+use Rattle.std.specs.Prelude.{Some, None, List, [], length, filter, fold, bytes_eq, unwrap_or}
+use Rattle.std.specs.Prelude.{if◌then◌else◌, int_lt}
 use Rattle.lq_records.specs.Object.{is_same_object}
 use Rattle.lq_records.specs.declared.ids.HostId.{HostId}
 use Rattle.lq_records.specs.declared.object.Object.{Object}
@@ -43,10 +45,10 @@ abbrev pub output_in : Object → Said → Option (List ℕ)
 output_in about (State object state output) = where_holds (is_same_object about object) output
 output_in about _ = None
 
-abbrev pub line_in : Object → Note → Said → Option (Option ℕ)
-line_in about note (State object state output) =
+abbrev pub line_fact : Object → Note → Said → Option (Option ℕ)
+line_fact about note (State object state output) =
     where_holds (is_same_object about object) (Some note.place)
-line_in about note _ = None
+line_fact about note _ = None
 
 -- that an object is down: a host whose state is above 0
 abbrev pub down_in : Object → Said → Option Bool
@@ -54,19 +56,19 @@ down_in about (State object state output) =
     where_holds (is_same_object about object) (int_lt (pos 0) state)
 down_in about _ = None
 
-abbrev pub downtime_in : Object → Said → Option Bool
-downtime_in about (Downtime object on) = where_holds (is_same_object about object) on
-downtime_in about _ = None
+abbrev pub downtime_fact : Object → Said → Option Bool
+downtime_fact about (Downtime object on) = where_holds (is_same_object about object) on
+downtime_fact about _ = None
 
-abbrev pub flapping_in : Object → Said → Option Bool
-flapping_in about (Flapping object on) = where_holds (is_same_object about object) on
-flapping_in about _ = None
+abbrev pub flapping_fact : Object → Said → Option Bool
+flapping_fact about (Flapping object on) = where_holds (is_same_object about object) on
+flapping_fact about _ = None
 
 -- of the time period with a name; nothing of one without a name
-abbrev pub period_in : List ℕ → Said → Option Bool
-period_in period (Period name on) =
+abbrev pub period_fact : List ℕ → Said → Option Bool
+period_fact period (Period name on) =
     where_holds (not (length period == 0) && bytes_eq name period) on
-period_in period _ = None
+period_fact period _ = None
 
 -- ---- what the lines up to a second say
 
@@ -79,17 +81,17 @@ facts_after about notes = record {
   state = last_said (λ note. state_in about.object note.said) (negsuc 0) notes;
   output = last_said (λ note. output_in about.object note.said) [] notes;
   host_down = last_said (λ note. down_in (object.Host about.host) note.said) false notes;
-  in_downtime = last_said (λ note. downtime_in about.object note.said) false notes;
+  in_downtime = last_said (λ note. downtime_fact about.object note.said) false notes;
   in_host_downtime =
-      last_said (λ note. downtime_in (object.Host about.host) note.said) false notes;
-  is_flapping = last_said (λ note. flapping_in about.object note.said) false notes;
-  in_period = last_said (λ note. period_in about.period note.said) true notes;
+      last_said (λ note. downtime_fact (object.Host about.host) note.said) false notes;
+  is_flapping = last_said (λ note. flapping_fact about.object note.said) false notes;
+  in_period = last_said (λ note. period_fact about.period note.said) true notes;
 }
 
 abbrev pub known_after : Subject → List Note → Known
 known_after about notes = record {
   facts = facts_after about notes;
-  line = last_said (λ note. line_in about.object note note.said) None notes;
+  line = last_said (λ note. line_fact about.object note note.said) None notes;
 }
 
 -- those whose second is no later than a second

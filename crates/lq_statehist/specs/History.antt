@@ -3,11 +3,11 @@ use Rattle.std.specs.Prelude.{ℕ, List, map}
 use Rattle.lq_records.specs.declared.object.Object.{Object}
 use Rattle.lq_statehist.specs.Facts.{Subject, known_at}
 use Rattle.lq_statehist.specs.Notes.{Note}
-use Rattle.lq_statehist.specs.Tiling.{Piece, pieces_of}
+use Rattle.lq_statehist.specs.Tiling.{HistoryPiece, pieces_between}
 use Rattle.lq_statehist.specs.declared.slice.Slice.{Slice}
 
 -- a piece of the history of an object
-abbrev pub slice_of : Object → Piece → Slice
+abbrev pub slice_of : Object → HistoryPiece → Slice
 slice_of about piece = record {
   object = about;
   from = piece.from;
@@ -24,4 +24,4 @@ slice_of about piece = record {
 -- the history of an object from a second up to before another, by what a log says
 abbrev pub history : Subject → List Note → ℕ → ℕ → List Slice
 history about notes from until =
-    map (slice_of about.object) (pieces_of (known_at about notes) from until)
+    map (slice_of about.object) (pieces_between (known_at about notes) from until)

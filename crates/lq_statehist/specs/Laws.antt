@@ -11,7 +11,7 @@ use Rattle.lq_log.specs.Told.{object_of}
 use Rattle.lq_auth.specs.Lines.{is_transition}
 use Rattle.lq_statehist.specs.Facts.{Facts, Subject, known_at}
 use Rattle.lq_statehist.specs.Notes.{notes_of}
-use Rattle.lq_statehist.specs.Tiling.{Piece, pieces_of}
+use Rattle.lq_statehist.specs.Tiling.{HistoryPiece, pieces_between}
 
 -- ---- its own lines
 
@@ -30,25 +30,26 @@ pub record Shown : Type 0 where
   pub until : ℕ
   pub facts : Facts
 
-abbrev pub shown : Piece → Shown
-shown piece =
+abbrev pub shown_piece : HistoryPiece → Shown
+shown_piece piece =
     record { from = piece.from; until = piece.until; facts = piece.known.facts }
 
 -- logs that agree in the lines that concern an object show the same history of it
 abbrev pub IsOwnHistory : Type 0
 IsOwnHistory = (base : Base) (about : Subject) (xs ys : List LogEntry)
     → filter (concerns base about) xs ≡ filter (concerns base about) ys → (from until : ℕ)
-    → map shown (pieces_of (known_at about (notes_of base xs)) from until)
-    ≡ map shown (pieces_of (known_at about (notes_of base ys)) from until)
+    → map shown_piece (pieces_between (known_at about (notes_of base xs)) from until)
+    ≡ map shown_piece (pieces_between (known_at about (notes_of base ys)) from until)
 
 -- ---- outputs
 
 -- the output of the line at a place, empty without one
-abbrev pub output_at : List LogEntry → Option ℕ → List ℕ
-output_at log line = option_map_or (λ entry. entry.output) (option_and_then (slice_get log) line) []
+abbrev pub output_of_line : List LogEntry → Option ℕ → List ℕ
+output_of_line log line =
+    option_map_or (λ entry. entry.output) (option_and_then (slice_get log) line) []
 
 -- the line that a piece carries has the output that is told there
 abbrev pub HaveOutputs : Type 0
 HaveOutputs = (base : Base) (about : Subject) (log : List LogEntry) (from until : ℕ)
-    → AllByRecursion (λ piece. output_at log piece.known.line ≡ piece.known.facts.output)
-    (pieces_of (known_at about (notes_of base log)) from until)
+    → AllByRecursion (λ piece. output_of_line log piece.known.line ≡ piece.known.facts.output)
+    (pieces_between (known_at about (notes_of base log)) from until)

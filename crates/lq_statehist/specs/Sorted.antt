@@ -1,5 +1,7 @@
 -- How the code works: what the log says is kept by the hosts that it is about.
-use Rattle.std.specs.Prelude.{◌≡◌, ℕ, ◌≤◌, ◌<◌, ◌+◌, ◌==◌, ◌||◌, nat_lt, Bool, true, false, Option, Some, None, IfSome, List, [], ◌∷◌, ◌++◌, length, map, filter, if◌then◌else◌}
+use Rattle.std.specs.Prelude.{◌≡◌, ℕ, ◌≤◌, ◌<◌, ◌+◌, ◌==◌, ◌||◌, nat_lt, Bool, true, false, Option}
+use Rattle.std.specs.Prelude.{Some, None, IfSome, List, [], ◌∷◌, ◌++◌, length, map, filter}
+use Rattle.std.specs.Prelude.{if◌then◌else◌}
 use Rattle.std.specs.List.{slice_get}
 use Rattle.std.specs.Option.{option_map, option_map_or}
 use Rattle.lq_records.specs.declared.base.Base.{Base}
@@ -13,28 +15,28 @@ use Rattle.lq_statehist.specs.declared.line.Line.{Line}
 use Rattle.lq_statehist.specs.declared.notes.Notes.{Notes}
 
 -- the host itself, or the one that a service runs on
-abbrev pub host_of : Base → Object → Option HostId
-host_of base (object.Host id) = Some id
-host_of base (object.Service id) =
+abbrev pub host_about : Base → Object → Option HostId
+host_about base (object.Host id) = Some id
+host_about base (object.Service id) =
     option_map (λ service. service.host) (slice_get base.services id.0)
 
 -- an object's host is the one that is told with it, and the base has it
 pub record IsHosted (base : Base) (about : Subject) : Type 0 where
-  pub host : host_of base about.object ≡ Some about.host
+  pub host : host_about base about.object ≡ Some about.host
   pub known : about.host.0 < length base.hosts
 
-abbrev pub object_in : Said → Option Object
-object_in (State object state output) = Some object
-object_in (Downtime object on) = Some object
-object_in (Flapping object on) = Some object
-object_in (Period name on) = None
+abbrev pub object_of_said : Said → Option Object
+object_of_said (State object state output) = Some object
+object_of_said (Downtime object on) = Some object
+object_of_said (Flapping object on) = Some object
+object_of_said (Period name on) = None
 
 abbrev pub is_on : Base → HostId → Object → Bool
-is_on base host about = option_map_or (λ own. own.0 == host.0) (host_of base about) false
+is_on base host about = option_map_or (λ own. own.0 == host.0) (host_about base about) false
 
 -- whether a line is about a host or a service on it
 abbrev pub is_of_host : Base → HostId → Note → Bool
-is_of_host base host note = option_map_or (is_on base host) (object_in note.said) false
+is_of_host base host note = option_map_or (is_on base host) (object_of_said note.said) false
 
 abbrev pub is_period : Said → Bool
 is_period (Period name on) = true
@@ -75,9 +77,9 @@ pub record AreNear (notes : Notes) (about : Subject) (near : List Note) : Type 0
       → about.host.0 < length base.hosts → near ≡ filter (is_near base about) told
 
 -- two lists in the order of the log become one
-abbrev pub merged : List Note → List Note → List Note
-merged [] others = others
-merged (note ∷ notes) [] = note ∷ notes
-merged (note ∷ notes) (other ∷ others) =
-    if nat_lt note.place other.place then note ∷ merged notes (other ∷ others)
-    else other ∷ merged (note ∷ notes) others
+abbrev pub merged_notes : List Note → List Note → List Note
+merged_notes [] others = others
+merged_notes (note ∷ notes) [] = note ∷ notes
+merged_notes (note ∷ notes) (other ∷ others) =
+    if nat_lt note.place other.place then note ∷ merged_notes notes (other ∷ others)
+    else other ∷ merged_notes (note ∷ notes) others

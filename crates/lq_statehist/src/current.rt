@@ -1,5 +1,6 @@
 ghost use Rattle.std.specs.Prelude.{◌≡◌};
-ghost use Rattle.lq_statehist.specs.Pass.{known_of, note_of, noted, subject_of, unknown};
+ghost use Rattle.lq_statehist.specs.Pass.{known_of, note_of, known_after_note, subject_of_lines};
+ghost use Rattle.lq_statehist.specs.Pass.{unknown};
 ghost use Rattle.lq_statehist.specs.Tiling.{same_facts};
 
 use crate::line::{Line, Said};
@@ -39,7 +40,7 @@ impl<'a> Current<'a> {
     /// What is known after one more line.
     pub(crate) fn after(&self, about: &Subject<'_>, note: &Line<'a>) -> Self
         ensures { known_of result
-            ≡ noted (subject_of about.now) (known_of self.now) (note_of note.now) }
+            ≡ known_after_note (subject_of_lines about.now) (known_of self.now) (note_of note.now) }
     {
         let mut known = *self;
         let host = Object::Host(about.host);

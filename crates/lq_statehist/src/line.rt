@@ -2,7 +2,7 @@ ghost use Rattle.std.specs.Prelude.{◌≡◌};
 ghost use Rattle.std.specs.Option.{option_map};
 ghost use Rattle.lq_statehist.specs.Notes.{note_at, said_by};
 ghost use Rattle.lq_statehist.specs.Pass.{note_of, said_of};
-ghost use Rattle.lq_statehist.specs.Sorted.{object_in};
+ghost use Rattle.lq_statehist.specs.Sorted.{object_of_said};
 
 use lq_events::LogEntry;
 use lq_log::{Told, object_of, period_of, told_by};
@@ -45,7 +45,7 @@ pub(crate) struct Line<'a> {
 impl Said<'_> {
     /// The object of which something is said, None of a time period.
     pub(crate) fn object(&self) -> Option<Object>
-        ensures { result ≡ object_in (said_of self.now) }
+        ensures { result ≡ object_of_said (said_of self.now) }
     {
         match self {
             Said::State { object, .. }

@@ -1,9 +1,11 @@
-ghost use Rattle.std.specs.Prelude.{◌≡◌, ◌≤◌, ◌+◌, ◌++◌, ◌∷◌, [], ℕ, List, IfOk, IfSome, IsSomeAnd, OnOk, option_to_list, length, map};
+ghost use Rattle.std.specs.Prelude.{◌≡◌, ◌≤◌, ◌+◌, ◌++◌, ◌∷◌, [], ℕ, List, IfOk, IfSome, IsSomeAnd};
+ghost use Rattle.std.specs.Prelude.{OnOk, option_to_list, length, map};
 ghost use Rattle.std.specs.List.{slice_get};
 ghost use Rattle.lq_log.specs.Book.{InOrder};
 ghost use Rattle.lq_statehist.specs.Notes.{Note, lines_below, note_at, notes_of};
-ghost use Rattle.lq_statehist.specs.Pass.{note_of, subject_of};
-ghost use Rattle.lq_statehist.specs.Sorted.{AreNear, AreSorted, below, host_of, merged, with_note};
+ghost use Rattle.lq_statehist.specs.Pass.{note_of, subject_of_lines};
+ghost use Rattle.lq_statehist.specs.Sorted.{AreNear, AreSorted, below, host_about, merged_notes};
+ghost use Rattle.lq_statehist.specs.Sorted.{with_note};
 
 use crate::line::Line;
 use crate::subject::Subject;
@@ -86,7 +88,7 @@ impl<'a> Notes<'a> {
         let Some(object) = note.said.object() else {
             return self.add_period(note);
         };
-        match host_of(base, object) {
+        match host_about(base, object) {
             Some(host) => self.add_to(host, note),
             None => Ok(()),
         }
@@ -121,11 +123,11 @@ impl<'a> Notes<'a> {
     /// periods, in the order of the log. The only error is out of memory.
     pub(crate) fn near(&self, about: &Subject<'_>) -> Result<Vec<Line<'a>>, Memory>
         ensures { IfOk result (λ near.
-            AreNear self.now (subject_of about.now) (map note_of near.items)) }
+            AreNear self.now (subject_of_lines about.now) (map note_of near.items)) }
     {
         let place = about.host.0 as usize;
         if place < self.hosts.len() {
-            merged(self.alloc, &self.hosts[place], &self.periods)
+            merged_notes(self.alloc, &self.hosts[place], &self.periods)
         } else {
             Ok(Vec::new(self.alloc))
         }
@@ -133,8 +135,8 @@ impl<'a> Notes<'a> {
 }
 
 /// The host itself, or the one that a service runs on.
-fn host_of(base: &Base, object: Object) -> Option<HostId>
-    ensures { result ≡ host_of base.now object }
+fn host_about(base: &Base, object: Object) -> Option<HostId>
+    ensures { result ≡ host_about base.now object }
 {
     match object {
         Object::Host(id) => Some(id),
@@ -146,13 +148,13 @@ fn host_of(base: &Base, object: Object) -> Option<HostId>
 }
 
 /// Two lists in the order of the log as one.
-fn merged<'a>(
+fn merged_notes<'a>(
     alloc: Global,
     notes: &[Line<'a>],
     others: &[Line<'a>],
 ) -> Result<Vec<Line<'a>>, Memory>
     ensures { IfOk result (λ all. map note_of all.items
-        ≡ merged (map note_of notes.now) (map note_of others.now)) }
+        ≡ merged_notes (map note_of notes.now) (map note_of others.now)) }
 {
     let mut all = Vec::new(alloc);
     let mut at = 0;

@@ -1,9 +1,10 @@
 ghost use Rattle.std.specs.Prelude.{◌≡◌, ◌≤◌, ◌<◌, ◌++◌, ◌∷◌, [], ℕ, List, Err, OnOk, length, map};
 ghost use Rattle.std.specs.Option.{option_map};
 ghost use Rattle.lq_statehist.specs.Facts.{Known};
-ghost use Rattle.lq_statehist.specs.Pass.{IsHeld, RisesFrom, before, known_of, note_of, piece_of, subject_of};
+ghost use Rattle.lq_statehist.specs.Pass.{IsKnownThroughout, RisesFrom, before, known_of, note_of};
+ghost use Rattle.lq_statehist.specs.Pass.{piece_of_stretch, subject_of_lines};
 ghost use Rattle.lq_statehist.specs.History.{history, slice_of};
-ghost use Rattle.lq_statehist.specs.Tiling.{Piece, joined, pieces_of};
+ghost use Rattle.lq_statehist.specs.Tiling.{HistoryPiece, with_piece_before, pieces_between};
 ghost use Rattle.lq_statehist.specs.declared.slice.HistErr.TheVariants.{TooMany};
 
 use crate::current::Current;
@@ -49,9 +50,9 @@ pub(crate) fn history<'a>(
 ) -> Result<(), HistErr>
     requires order { RisesFrom 0 (map note_of notes.now) }
     ensures ok { OnOk result (slices.new.items ≡ slices.old.items
-        ++ history (subject_of about.now) (map note_of notes.now) span.from span.until) }
+        ++ history (subject_of_lines about.now) (map note_of notes.now) span.from span.until) }
     ensures many { result ≡ Err TooMany → 1000000 < length (slices.old.items
-        ++ history (subject_of about.now) (map note_of notes.now) span.from span.until) }
+        ++ history (subject_of_lines about.now) (map note_of notes.now) span.from span.until) }
     ensures most { OnOk result (length slices.old.items ≤ 1000000
         → length slices.new.items ≤ 1000000) }
 {
@@ -81,15 +82,18 @@ fn advance(
     to: u64,
 ) -> Result<(), HistErr>
     ensures ok { OnOk result ((until : ℕ) (at : ℕ → Known) → to ≤ until
-        → IsHeld at (known_of pass.old.known) pass.old.since to
-        → slices.new.items ++ map (slice_of about) (before (option_map piece_of pass.new.growing)
-        (pieces_of at pass.new.since until))
-        ≡ slices.old.items ++ map (slice_of about) (before (option_map piece_of pass.old.growing)
-        (pieces_of at pass.old.since until))) }
+        → IsKnownThroughout at (known_of pass.old.known) pass.old.since to
+        → slices.new.items ++ map (slice_of about)
+        (before (option_map piece_of_stretch pass.new.growing)
+        (pieces_between at pass.new.since until))
+        ≡ slices.old.items ++ map (slice_of about)
+        (before (option_map piece_of_stretch pass.old.growing)
+        (pieces_between at pass.old.since until))) }
     ensures many { result ≡ Err TooMany → (until : ℕ) (at : ℕ → Known) → to ≤ until
-        → IsHeld at (known_of pass.old.known) pass.old.since to
+        → IsKnownThroughout at (known_of pass.old.known) pass.old.since to
         → 1000000 < length (slices.old.items ++ map (slice_of about)
-        (before (option_map piece_of pass.old.growing) (pieces_of at pass.old.since until))) }
+        (before (option_map piece_of_stretch pass.old.growing)
+        (pieces_between at pass.old.since until))) }
     ensures since { OnOk result (to ≤ pass.new.since) }
     ensures later { OnOk result (pass.old.since ≤ pass.new.since) }
     ensures known { OnOk result (pass.new.known ≡ pass.old.known) }
@@ -116,13 +120,16 @@ fn settle<'a>(
     growing: &mut Option<Stretch<'a>>,
     next: Stretch<'a>,
 ) -> Result<(), HistErr>
-    ensures ok { OnOk result ((later : List Piece)
-        → slices.new.items ++ map (slice_of about) (before (option_map piece_of growing.new) later)
+    ensures ok { OnOk result ((later : List HistoryPiece)
+        → slices.new.items ++ map (slice_of about)
+        (before (option_map piece_of_stretch growing.new) later)
         ≡ slices.old.items ++ map (slice_of about)
-        (before (option_map piece_of growing.old) (joined (piece_of next.entry) later))) }
-    ensures many { result ≡ Err TooMany → (later : List Piece)
+        (before (option_map piece_of_stretch growing.old)
+        (with_piece_before (piece_of_stretch next.entry) later))) }
+    ensures many { result ≡ Err TooMany → (later : List HistoryPiece)
         → 1000000 < length (slices.old.items ++ map (slice_of about)
-        (before (option_map piece_of growing.old) (joined (piece_of next.entry) later))) }
+        (before (option_map piece_of_stretch growing.old)
+        (with_piece_before (piece_of_stretch next.entry) later))) }
     ensures most { OnOk result (length slices.old.items ≤ 1000000
         → length slices.new.items ≤ 1000000) }
 {
@@ -140,13 +147,16 @@ fn settle_after<'a>(
     growing: &mut Option<Stretch<'a>>,
     pair: Pair<'a>,
 ) -> Result<(), HistErr>
-    ensures ok { OnOk result ((later : List Piece)
-        → slices.new.items ++ map (slice_of about) (before (option_map piece_of growing.new) later)
+    ensures ok { OnOk result ((later : List HistoryPiece)
+        → slices.new.items ++ map (slice_of about)
+        (before (option_map piece_of_stretch growing.new) later)
         ≡ slices.old.items ++ map (slice_of about)
-        (joined (piece_of pair.entry.last) (joined (piece_of pair.entry.next) later))) }
-    ensures many { result ≡ Err TooMany → (later : List Piece)
+        (with_piece_before (piece_of_stretch pair.entry.last)
+        (with_piece_before (piece_of_stretch pair.entry.next) later))) }
+    ensures many { result ≡ Err TooMany → (later : List HistoryPiece)
         → 1000000 < length (slices.old.items ++ map (slice_of about)
-        (joined (piece_of pair.entry.last) (joined (piece_of pair.entry.next) later))) }
+        (with_piece_before (piece_of_stretch pair.entry.last)
+        (with_piece_before (piece_of_stretch pair.entry.next) later))) }
     ensures most { OnOk result (length slices.old.items ≤ 1000000
         → length slices.new.items ≤ 1000000) }
 {
@@ -169,9 +179,9 @@ fn finish(
     growing: Option<Stretch<'_>>,
 ) -> Result<(), HistErr>
     ensures ok { OnOk result (slices.new.items ≡ slices.old.items
-        ++ map (slice_of about) (before (option_map piece_of growing.entry) [])) }
+        ++ map (slice_of about) (before (option_map piece_of_stretch growing.entry) [])) }
     ensures many { result ≡ Err TooMany → 1000000 < length (slices.old.items
-        ++ map (slice_of about) (before (option_map piece_of growing.entry) [])) }
+        ++ map (slice_of about) (before (option_map piece_of_stretch growing.entry) [])) }
     ensures most { OnOk result (length slices.old.items ≤ 1000000
         → length slices.new.items ≤ 1000000) }
 {
@@ -184,7 +194,7 @@ fn finish(
 /// Adds a slice. `TooMany` exactly where there are 1,000,000 already.
 fn push(slices: &mut Vec<Slice>, about: Object, stretch: &Stretch<'_>) -> Result<(), HistErr>
     ensures ok { OnOk result (slices.new.items
-        ≡ slices.old.items ++ slice_of about (piece_of stretch.now) ∷ []) }
+        ≡ slices.old.items ++ slice_of about (piece_of_stretch stretch.now) ∷ []) }
     ensures many { result ≡ Err TooMany → 1000000 ≤ length slices.old.items }
     ensures most { OnOk result (length slices.new.items ≤ 1000000) }
 {

@@ -1,12 +1,14 @@
-ghost use Rattle.std.specs.Prelude.{◌≡◌, ◌≤◌, ◌<◌, ◌+◌, ◌^◌, ◌++◌, ◌∷◌, [], Err, IfOk, OnOk, length, map, filter};
+ghost use Rattle.std.specs.Prelude.{◌≡◌, ◌≤◌, ◌<◌, ◌+◌, ◌^◌, ◌++◌, ◌∷◌, [], Err, IfOk, OnOk};
+ghost use Rattle.std.specs.Prelude.{length, map, filter};
 ghost use Rattle.std.specs.List.{AllByRecursion, enumerate_from};
 ghost use Rattle.lq_auth.specs.Rights.{sees_object};
 ghost use Rattle.lq_log.specs.Book.{InOrder};
 ghost use Rattle.lq_records.specs.Sound.{IsSound};
 ghost use Rattle.lq_statehist.specs.History.{history};
 ghost use Rattle.lq_statehist.specs.Notes.{lines_below, notes_of};
-ghost use Rattle.lq_statehist.specs.Pass.{subject_of};
-ghost use Rattle.lq_statehist.specs.Slices.{histories, host_subject, seen_subjects, service_subject, slices_of};
+ghost use Rattle.lq_statehist.specs.Pass.{subject_of_lines};
+ghost use Rattle.lq_statehist.specs.Slices.{histories, host_subject, seen_subjects};
+ghost use Rattle.lq_statehist.specs.Slices.{service_subject, slices_of};
 ghost use Rattle.lq_statehist.specs.Sorted.{AreSorted, IsHosted, below};
 ghost use Rattle.lq_statehist.specs.declared.slice.HistErr.TheVariants.{TooMany};
 
@@ -60,14 +62,15 @@ fn histories<'a>(
     requires sorted { AreSorted notes.now live.now.state.base
         (below span.until (notes_of live.now.state.base live.now.state.log)) }
     requires order { InOrder live.now.state.log }
-    requires hosted { AllByRecursion (IsHosted live.now.state.base) (map subject_of subjects.now) }
+    requires hosted { AllByRecursion (IsHosted live.now.state.base)
+        (map subject_of_lines subjects.now) }
     ensures all { IfOk result (λ slices. slices.items
         ≡ histories live.now.state.base live.now.state.log span.from span.until
-        (map subject_of subjects.now)) }
+        (map subject_of_lines subjects.now)) }
     ensures few { IfOk result (λ slices. length slices.items ≤ 1000000) }
     ensures many { result ≡ Err TooMany → 1000000
         < length (histories live.now.state.base live.now.state.log span.from span.until
-        (map subject_of subjects.now)) }
+        (map subject_of_lines subjects.now)) }
 {
     let mut slices = Vec::new(alloc);
     for about in subjects {
@@ -90,12 +93,12 @@ fn tell<'a>(
     requires sorted { AreSorted notes.now live.now.state.base
         (below span.until (notes_of live.now.state.base live.now.state.log)) }
     requires order { InOrder live.now.state.log }
-    requires hosted { IsHosted live.now.state.base (subject_of about.now) }
+    requires hosted { IsHosted live.now.state.base (subject_of_lines about.now) }
     ensures ok { OnOk result (slices.new.items ≡ slices.old.items
-        ++ history (subject_of about.now) (notes_of live.now.state.base live.now.state.log)
+        ++ history (subject_of_lines about.now) (notes_of live.now.state.base live.now.state.log)
         span.from span.until) }
     ensures many { result ≡ Err TooMany → 1000000 < length (slices.old.items
-        ++ history (subject_of about.now) (notes_of live.now.state.base live.now.state.log)
+        ++ history (subject_of_lines about.now) (notes_of live.now.state.base live.now.state.log)
         span.from span.until) }
     ensures most { OnOk result (length slices.old.items ≤ 1000000
         → length slices.new.items ≤ 1000000) }
@@ -108,9 +111,9 @@ fn tell<'a>(
 fn seen_subjects<'a>(alloc: Global, base: &'a Base, view: &View) -> Result<Vec<Subject<'a>>, Memory>
     requires { IsSound base.now }
     ensures seen { IfOk result (λ subjects.
-        map subject_of subjects.items ≡ seen_subjects base.now view.now) }
+        map subject_of_lines subjects.items ≡ seen_subjects base.now view.now) }
     ensures hosted { IfOk result (λ subjects.
-        AllByRecursion (IsHosted base.now) (map subject_of subjects.items)) }
+        AllByRecursion (IsHosted base.now) (map subject_of_lines subjects.items)) }
 {
     let mut subjects = Vec::new(alloc);
     push_hosts(&mut subjects, view, base.hosts.as_slice())?;
@@ -124,7 +127,8 @@ fn push_hosts<'a>(
     hosts: &'a [Host],
 ) -> Result<(), Memory>
     requires few { length hosts.now < 2 ^ 32 }
-    ensures { OnOk result (map subject_of subjects.new.items ≡ map subject_of subjects.old.items
+    ensures { OnOk result (map subject_of_lines subjects.new.items
+        ≡ map subject_of_lines subjects.old.items
         ++ filter (λ about. sees_object view.now about.object)
         (map host_subject (enumerate_from 0 hosts.now))) }
 {
@@ -146,7 +150,8 @@ fn push_services<'a>(
     services: &'a [Service],
 ) -> Result<(), Memory>
     requires few { length services.now < 2 ^ 32 }
-    ensures { OnOk result (map subject_of subjects.new.items ≡ map subject_of subjects.old.items
+    ensures { OnOk result (map subject_of_lines subjects.new.items
+        ≡ map subject_of_lines subjects.old.items
         ++ filter (λ about. sees_object view.now about.object)
         (map service_subject (enumerate_from 0 services.now))) }
 {
@@ -167,8 +172,10 @@ fn push_seen<'a>(
     view: &View,
     about: Subject<'a>,
 ) -> Result<(), Memory>
-    ensures { OnOk result (map subject_of subjects.new.items ≡ map subject_of subjects.old.items
-        ++ filter (λ other. sees_object view.now other.object) (subject_of about.entry ∷ [])) }
+    ensures { OnOk result (map subject_of_lines subjects.new.items
+        ≡ map subject_of_lines subjects.old.items
+        ++ filter (λ other. sees_object view.now other.object)
+        (subject_of_lines about.entry ∷ [])) }
 {
     if view.sees_object(about.object) {
         subjects.push(about)?;

@@ -8,7 +8,7 @@ use Rattle.std.proofs.lemmas.List.{drop_more, get_or-drop}
 use Rattle.std.proofs.lemmas.List.Elements.{All-get_or}
 use mir.Val.{of_z, to_z}
 use Rattle.lq_stats.specs.Columns.{marked_by_both, with_column}
-use Rattle.lq_stats.specs.Totals.{HasRoom, IsSized, IsSmall, with_cell}
+use Rattle.lq_stats.specs.Totals.{HasRoomForRows, IsSized, IsSmall, with_stat_cell}
 use Rattle.lq_stats.specs.declared.cell.StatCell.TheVariants as cell
 use Rattle.lq_stats.specs.declared.total.Total.{Total}
 use Rattle.lq_stats.specs.declared.total.Total.TheVariants as total
@@ -27,7 +27,7 @@ counted_more count (true ∷ marks) (false ∷ counted) = counted_more count mar
 counted_more count (false ∷ marks) (mark ∷ counted) = counted_more count marks counted
 
 -- what is kept of numbers isn't changed by marks
-pub without_numbers : (old : Total) → ((mark : Bool) → with_cell old (cell.Counted mark) ≡ old) → (marks counted : List Bool) → old ≡ with_column marks old (map cell.Counted counted)
+pub without_numbers : (old : Total) → ((mark : Bool) → with_stat_cell old (cell.Counted mark) ≡ old) → (marks counted : List Bool) → old ≡ with_column marks old (map cell.Counted counted)
 without_numbers old same [] counted = refl
 without_numbers old same (mark ∷ marks) [] = refl
 without_numbers old same (true ∷ marks) (mark ∷ counted) =
@@ -36,21 +36,21 @@ without_numbers old same (false ∷ marks) (mark ∷ counted) = without_numbers 
 
 -- ---- room
 
-pub small_with_room : (more : ℕ) (old : Total) → HasRoom more old → IsSmall old
+pub small_with_room : (more : ℕ) (old : Total) → HasRoomForRows more old → IsSmall old
 small_with_room more (total.Count count) room = omega (arith, room)
 small_with_room more (total.Sum sum) room = omega (arith, room)
 small_with_room more (total.Min least) room = tt
 small_with_room more (total.Max greatest) room = tt
 small_with_room more (total.Avg mean) room = (omega (arith, room.0), omega (arith, room.1))
 
-pub room_with_less : (more less : ℕ) (old : Total) → less ≤ more → HasRoom more old → HasRoom less old
+pub room_with_less : (more less : ℕ) (old : Total) → less ≤ more → HasRoomForRows more old → HasRoomForRows less old
 room_with_less more less (total.Count count) fewer room = omega (arith, fewer, room)
 room_with_less more less (total.Sum sum) fewer room = omega (arith, fewer, room)
 room_with_less more less (total.Min least) fewer room = tt
 room_with_less more less (total.Max greatest) fewer room = tt
 room_with_less more less (total.Avg mean) fewer room = (omega (arith, fewer, room.0), omega (arith, fewer, room.1))
 
-pub room_for_number : (more : ℕ) (old : Total) (number : ℤ) → unsigned_abs number ≤ 2 ^ 64 → HasRoom (more + 1) old → HasRoom more (with_cell old (cell.Number number))
+pub room_for_number : (more : ℕ) (old : Total) (number : ℤ) → unsigned_abs number ≤ 2 ^ 64 → HasRoomForRows (more + 1) old → HasRoomForRows more (with_stat_cell old (cell.Number number))
 room_for_number more (total.Count count) number small room = omega (arith, room)
 room_for_number more (total.Sum sum) number small room = omega (arith, room, small, size_of-add sum number)
 room_for_number more (total.Min least) number small room = tt
@@ -66,8 +66,8 @@ sized_number (number ∷ numbers) (suc place) d sized below = sized_number numbe
 pub same_rest : (totals old : List Total) (i : ℕ) (d : Total) → drop i totals ≡ drop i old → get_or totals i d ≡ get_or old i d
 same_rest totals old i d same = rw add-zero at (sym (get_or-drop i totals 0 d) ∙ ap (λ rest. get_or rest 0 d) same ∙ get_or-drop i old 0 d)
 
-pub room_at : (more : ℕ) (totals old : List Total) (i : ℕ) (d : Total) → drop i totals ≡ drop i old → i < length old → All (HasRoom more) old → HasRoom more (get_or totals i d)
-room_at more totals old i d same below room = subst (HasRoom more) (sym (same_rest totals old i d same)) (All-get_or (HasRoom more) old i d below room)
+pub room_at : (more : ℕ) (totals old : List Total) (i : ℕ) (d : Total) → drop i totals ≡ drop i old → i < length old → All (HasRoomForRows more) old → HasRoomForRows more (get_or totals i d)
+room_at more totals old i d same below room = subst (HasRoomForRows more) (sym (same_rest totals old i d same)) (All-get_or (HasRoomForRows more) old i d below room)
 
 -- ---- numbers, one after another
 
@@ -77,14 +77,14 @@ number_itself number small = to_z-of_z w128 number (fits_signed_from_abs w128 nu
 
 module _ (marks : List Bool) (numbers : List ℤ) (place : ℕ) (old : Total) (within : place < length marks) (long : length numbers ≡ length marks) where
   pub marked_number : get_or marks place false ≡ true
-      → with_column (drop (place + 1) marks) (with_cell old (cell.Number (get_or numbers place (pos 0)))) (map cell.Number (drop (place + 1) numbers)) ≡ with_column (drop place marks) old (map cell.Number (drop place numbers))
+      → with_column (drop (place + 1) marks) (with_stat_cell old (cell.Number (get_or numbers place (pos 0)))) (map cell.Number (drop (place + 1) numbers)) ≡ with_column (drop place marks) old (map cell.Number (drop place numbers))
   marked_number marked = rw (drop_more marks place false within, drop_more numbers place (pos 0) (omega (arith, within, long)), marked) refl
 
   pub unmarked_number : get_or marks place false ≡ false
       → with_column (drop (place + 1) marks) old (map cell.Number (drop (place + 1) numbers)) ≡ with_column (drop place marks) old (map cell.Number (drop place numbers))
   unmarked_number unmarked = rw (drop_more marks place false within, drop_more numbers place (pos 0) (omega (arith, within, long)), unmarked) refl
 
-  pub room_for_marked : (number : ℤ) → unsigned_abs number ≤ 2 ^ 64 → HasRoom (length marks - place) old → HasRoom (length marks - (place + 1)) (with_cell old (cell.Number number))
+  pub room_for_marked : (number : ℤ) → unsigned_abs number ≤ 2 ^ 64 → HasRoomForRows (length marks - place) old → HasRoomForRows (length marks - (place + 1)) (with_stat_cell old (cell.Number number))
   room_for_marked number small room =
       let left : length marks - place ≡ length marks - (place + 1) + 1 = omega (arith, within) in
-      room_for_number (length marks - (place + 1)) old number small (subst (λ more. HasRoom more old) left room)
+      room_for_number (length marks - (place + 1)) old number small (subst (λ more. HasRoomForRows more old) left room)

@@ -6,7 +6,7 @@ use Rattle.std.proofs.Math.Numerals.{one-add}
 use Rattle.std.proofs.lemmas.Bool.{cases_Bool, cond-true, lt-ltb, or_parts}
 use Rattle.std.proofs.lemmas.List.{append-nil}
 use Rattle.std.proofs.lemmas.List.Elements.{filter-append}
-use Rattle.lq_stats.specs.Groups.{Key, first_of_each, same_key}
+use Rattle.lq_stats.specs.Groups.{Key, distinct_keys, same_key}
 use Rattle.lq_stats.proofs.ValueLemmas.{same_key_decides}
 
 pub equal_keys : (a b : Key) → same_key a b ≡ true → a ≡ b
@@ -61,9 +61,9 @@ itself_without key (first ∷ keys) =
     rw different later)
     (cases_Bool (same_key key first))
 
-pub apart_first : (keys : List Key) → AreApart (first_of_each keys)
+pub apart_first : (keys : List Key) → AreApart (distinct_keys keys)
 apart_first [] = tt
-apart_first (key ∷ keys) = (itself_without key (first_of_each keys), apart_without key (first_of_each keys) (apart_first keys))
+apart_first (key ∷ keys) = (itself_without key (distinct_keys keys), apart_without key (distinct_keys keys) (apart_first keys))
 
 -- another key stands among those without one as among all
 any_without : (key other : Key) (keys : List Key) → same_key key other ≡ false → list_any (same_key key) (without other keys) ≡ list_any (same_key key) keys
@@ -76,13 +76,13 @@ any_without key other (first ∷ keys) different =
     (λ (apart : same_key other first ≡ false). rw apart (ap (λ later. same_key key first || later) (any_without key other keys different)))
     (cases_Bool (same_key other first))
 
-pub any_first : (key : Key) (keys : List Key) → list_any (same_key key) (first_of_each keys) ≡ list_any (same_key key) keys
+pub any_first : (key : Key) (keys : List Key) → list_any (same_key key) (distinct_keys keys) ≡ list_any (same_key key) keys
 any_first key [] = refl
 any_first key (first ∷ keys) =
     ⊎_elim
     (λ (same : same_key key first ≡ true). rw same refl)
     (λ (different : same_key key first ≡ false).
-    ap (λ later. same_key key first || later) (any_without key first (first_of_each keys) different ∙ any_first key keys))
+    ap (λ later. same_key key first || later) (any_without key first (distinct_keys keys) different ∙ any_first key keys))
     (cases_Bool (same_key key first))
 
 -- ---- one key more
@@ -96,10 +96,10 @@ same_test true f a b = refl
 same_test false f a b = refl
 
 -- a key more is one that was there, or stands at the end
-pub first_of_more : (keys : List Key) (key : Key) → first_of_each (keys ++ key ∷ []) ≡ with_key key (first_of_each keys)
+pub first_of_more : (keys : List Key) (key : Key) → distinct_keys (keys ++ key ∷ []) ≡ with_key key (distinct_keys keys)
 first_of_more [] key = refl
 first_of_more (first ∷ keys) key =
-    let earlier = first_of_each keys in
+    let earlier = distinct_keys keys in
     let there = list_any (same_key key) earlier in
     let added = filter-append (λ other. not (same_key first other)) earlier (key ∷ []) in
     ap (λ later. first ∷ without first later) (first_of_more keys key)

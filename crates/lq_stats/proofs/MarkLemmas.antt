@@ -5,10 +5,10 @@ use Rattle.std.specs.List.{AllByRecursion, AllZip}
 use Rattle.std.proofs.lemmas.List.{append-nil, length-map}
 use Rattle.std.proofs.lemmas.List.Elements.{All-from_recursion}
 use Rattle.std.proofs.lemmas.List.Sums.{sum_by-cons}
-use Rattle.lq_stats.specs.Columns.{IsColumnOf, cells_at, column_cells, marked_rows, with_column, with_columns}
+use Rattle.lq_stats.specs.Columns.{IsColumnOf, cells_at, column_cells, marked_rows, with_column, with_stat_columns}
 use Rattle.lq_stats.specs.Grouped.{AreGroupsOf, Grouped, HasRows, totals_of}
 use Rattle.lq_stats.specs.Groups.{IsCellOf, Key, Row, keys_of, same_key}
-use Rattle.lq_stats.specs.Totals.{IsSized, with_cell, with_cells}
+use Rattle.lq_stats.specs.Totals.{IsSized, with_stat_cell, with_cells}
 use Rattle.lq_stats.specs.declared.cell.StatCell.{StatCell}
 use Rattle.lq_stats.specs.declared.column.StatColumn.{StatColumn}
 use Rattle.lq_stats.specs.declared.kind.StatKind.{StatKind}
@@ -42,16 +42,16 @@ has_cell (suc place) (cell ∷ column) within =
 
 module _ (marks : List Bool) (place count : ℕ) (within : place < count) where
   row_marked : (totals : List Total) (columns : List (List StatCell)) → AreLong count columns
-      → with_columns marks (with_cells totals (cells_at place columns)) (rest (suc place) columns) ≡ with_columns (true ∷ marks) totals (rest place columns)
+      → with_stat_columns marks (with_cells totals (cells_at place columns)) (rest (suc place) columns) ≡ with_stat_columns (true ∷ marks) totals (rest place columns)
   row_marked [] columns long = refl
   row_marked (total ∷ totals) [] long = refl
   row_marked (total ∷ totals) (column ∷ columns) long =
       let has = has_cell place column (omega (arith, within, long.0)) in
       rw (has.found, has.first)
-      (ap (λ later. with_column marks (with_cell total has.cell) (drop (suc place) column) ∷ later) (row_marked totals columns long.1))
+      (ap (λ later. with_column marks (with_stat_cell total has.cell) (drop (suc place) column) ∷ later) (row_marked totals columns long.1))
 
   row_unmarked : (totals : List Total) (columns : List (List StatCell)) → AreLong count columns
-      → with_columns marks totals (rest (suc place) columns) ≡ with_columns (false ∷ marks) totals (rest place columns)
+      → with_stat_columns marks totals (rest (suc place) columns) ≡ with_stat_columns (false ∷ marks) totals (rest place columns)
   row_unmarked [] columns long = refl
   row_unmarked (total ∷ totals) [] long = refl
   row_unmarked (total ∷ totals) (column ∷ columns) long =
@@ -59,7 +59,7 @@ module _ (marks : List Bool) (place count : ℕ) (within : place < count) where
       rw has.first
       (ap (λ later. with_column marks total (drop (suc place) column) ∷ later) (row_unmarked totals columns long.1))
 
-no_marks : (totals : List Total) (columns : List (List StatCell)) → totals ≡ with_columns [] totals columns
+no_marks : (totals : List Total) (columns : List (List StatCell)) → totals ≡ with_stat_columns [] totals columns
 no_marks [] columns = refl
 no_marks (total ∷ totals) [] = refl
 no_marks (total ∷ totals) (column ∷ columns) = ap (λ later. total ∷ later) (no_marks totals columns)
@@ -70,7 +70,7 @@ no_marks (total ∷ totals) (column ∷ columns) = ap (λ later. total ∷ later
 abbrev pub with_marked : Grouped → List Bool → List (List StatCell) → Grouped
 with_marked groups marks columns =
     record groups {
-      totals = slice_set groups.totals 0 (with_columns marks (slice_index_or groups.totals 0 []) columns);
+      totals = slice_set groups.totals 0 (with_stat_columns marks (slice_index_or groups.totals 0 []) columns);
       count = groups.count + count_by (λ mark. mark) marks;
     }
 
@@ -83,10 +83,10 @@ one_more marks = sum_by-cons (λ mark. cond mark 1 0) true marks
 
 module _ (spec : StatsSpec) (keys : List Key) (others : List (List Total)) (columns : List (List StatCell)) (all : ℕ) (long : AreLong all columns) (here : position (same_key []) keys ≡ Some 0) where
   marked_are : (place : ℕ) (marks : List Bool) (totals : List Total) (count : ℕ) (rows : List Row) → place + length marks ≤ all → AreGroupsOf (first_is spec keys others totals count) rows
-      → AreGroupsOf (first_is spec keys others (with_columns marks totals (rest place columns)) (count + count_by (λ mark. mark) marks)) (rows ++ marked_rows place marks columns)
+      → AreGroupsOf (first_is spec keys others (with_stat_columns marks totals (rest place columns)) (count + count_by (λ mark. mark) marks)) (rows ++ marked_rows place marks columns)
   marked_are place [] totals count rows within are =
       let none : count ≡ count + 0 = omega arith in
-      subst (AreGroupsOf (first_is spec keys others (with_columns [] totals (rest place columns)) (count + 0))) (sym (append-nil rows))
+      subst (AreGroupsOf (first_is spec keys others (with_stat_columns [] totals (rest place columns)) (count + 0))) (sym (append-nil rows))
       (subst (λ (each : List Total). AreGroupsOf (first_is spec keys others each (count + 0)) rows) (no_marks totals (rest place columns))
       (subst (λ n. AreGroupsOf (first_is spec keys others totals n) rows) none are))
   marked_are place (true ∷ marks) totals count rows within are =
@@ -94,11 +94,11 @@ module _ (spec : StatsSpec) (keys : List Key) (others : List (List Total)) (colu
       let one : AreGroupsOf (first_is spec keys others (with_cells totals (cells_at place columns)) (count + 1)) (rows ++ row ∷ [])
       = raised_are (first_is spec keys others totals count) 0 (cells_at place columns) rows here are in
       let more : count + 1 + count_by (λ mark. mark) marks ≡ count + count_by (λ mark. mark) (true ∷ marks) = omega (arith, one_more marks) in
-      subst (AreGroupsOf (first_is spec keys others (with_columns (true ∷ marks) totals (rest place columns)) (count + count_by (λ mark. mark) (true ∷ marks))))
+      subst (AreGroupsOf (first_is spec keys others (with_stat_columns (true ∷ marks) totals (rest place columns)) (count + count_by (λ mark. mark) (true ∷ marks))))
       (append_assoc rows (row ∷ []) (marked_rows (suc place) marks columns))
       (subst (λ (each : List Total). AreGroupsOf (first_is spec keys others each (count + count_by (λ mark. mark) (true ∷ marks))) ((rows ++ row ∷ []) ++ marked_rows (suc place) marks columns))
       (row_marked marks place all (omega (arith, within)) totals columns long)
-      (subst (λ n. AreGroupsOf (first_is spec keys others (with_columns marks (with_cells totals (cells_at place columns)) (rest (suc place) columns)) n) ((rows ++ row ∷ []) ++ marked_rows (suc place) marks columns)) more
+      (subst (λ n. AreGroupsOf (first_is spec keys others (with_stat_columns marks (with_cells totals (cells_at place columns)) (rest (suc place) columns)) n) ((rows ++ row ∷ []) ++ marked_rows (suc place) marks columns)) more
       (marked_are (suc place) marks (with_cells totals (cells_at place columns)) (count + 1) (rows ++ row ∷ []) (omega (arith, within)) one)))
   marked_are place (false ∷ marks) totals count rows within are =
       subst (λ (each : List Total). AreGroupsOf (first_is spec keys others each (count + count_by (λ mark. mark) (false ∷ marks))) (rows ++ marked_rows (suc place) marks columns))
@@ -169,7 +169,7 @@ marked_totals groups (totals ∷ others) marks columns rows none long are =
     let after = marked_are groups.spec groups.keys others columns (length marks) long here 0 marks totals groups.count rows (omega arith) before in
     record {
       keys = after.keys;
-      totals = ap (λ (those : List (List StatCell)). with_columns marks totals those ∷ others) (sym (whole columns)) ∙ after.totals;
+      totals = ap (λ (those : List (List StatCell)). with_stat_columns marks totals those ∷ others) (sym (whole columns)) ∙ after.totals;
       count = after.count;
     }
 

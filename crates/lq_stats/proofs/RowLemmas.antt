@@ -7,8 +7,8 @@ use Rattle.std.proofs.lemmas.Int.{ints}
 use Rattle.std.proofs.lemmas.List.{append-nil, length_push}
 use Rattle.std.proofs.lemmas.List.Elements.{filter-append, filter_map-append}
 use Rattle.std.proofs.lemmas.List.Sums.{fold_push}
-use Rattle.lq_stats.specs.Groups.{Key, Row, column, greatest, is_marked, least, number_of, numbers, rows_of, same_key, sum_of}
-use Rattle.lq_stats.specs.Totals.{greater, lesser, total_of, totals_from, with_cell, with_cells}
+use Rattle.lq_stats.specs.Groups.{Key, Row, column, greatest, is_marked, least, number_of_cell, numbers, rows_with_key, same_key, sum_of}
+use Rattle.lq_stats.specs.Totals.{greater, lesser, total_of, totals_from, with_stat_cell, with_cells}
 use Rattle.lq_stats.specs.declared.cell.StatCell.{StatCell}
 use Rattle.lq_stats.specs.declared.cell.StatCell.TheVariants as cell
 use Rattle.lq_stats.specs.declared.kind.StatKind.{StatKind}
@@ -31,15 +31,15 @@ greatest-push [] number = refl
 greatest-push (first ∷ later) number = ap Some (fold_push int_max first later number)
 
 one_number : (cells : List StatCell) (number : ℤ) → numbers (cells ++ cell.Number number ∷ []) ≡ numbers cells ++ number ∷ []
-one_number cells number = filter_map-append number_of cells (cell.Number number ∷ [])
+one_number cells number = filter_map-append number_of_cell cells (cell.Number number ∷ [])
 
 no_number : (cells : List StatCell) (marked : Bool) → numbers (cells ++ cell.Counted marked ∷ []) ≡ numbers cells
-no_number cells marked = filter_map-append number_of cells (cell.Counted marked ∷ []) ∙ append-nil (numbers cells)
+no_number cells marked = filter_map-append number_of_cell cells (cell.Counted marked ∷ []) ∙ append-nil (numbers cells)
 
 no_mark : (cells : List StatCell) (last : StatCell) → is_marked last ≡ false → filter is_marked (cells ++ last ∷ []) ≡ filter is_marked cells
 no_mark cells last unmarked = filter-append is_marked cells (last ∷ []) ∙ rw unmarked (append-nil (filter is_marked cells))
 
-total_of-push : (kind : StatKind) (cells : List StatCell) (last : StatCell) → total_of kind (cells ++ last ∷ []) ≡ with_cell (total_of kind cells) last
+total_of-push : (kind : StatKind) (cells : List StatCell) (last : StatCell) → total_of kind (cells ++ last ∷ []) ≡ with_stat_cell (total_of kind cells) last
 total_of-push kind.Count cells (cell.Counted true) =
     ap (λ marked. total.Count (length marked)) (filter-append is_marked cells (cell.Counted true ∷ []))
     ∙ ap total.Count (length_push (filter is_marked cells) (cell.Counted true))
@@ -112,5 +112,5 @@ totals_none [] place = refl
 totals_none (kind ∷ kinds) place = ap (λ later. total_of kind [] ∷ later) (totals_none kinds (suc place))
 
 pub rows_of-push : (key : Key) (rows : List Row) (row : Row)
-    → rows_of key (rows ++ row ∷ []) ≡ rows_of key rows ++ cond (same_key key row.key) (row ∷ []) []
+    → rows_with_key key (rows ++ row ∷ []) ≡ rows_with_key key rows ++ cond (same_key key row.key) (row ∷ []) []
 rows_of-push key rows row = filter-append (λ (each : Row). same_key key each.key) rows (row ∷ [])

@@ -6,8 +6,8 @@ use Rattle.std.proofs.lemmas.Bool.{cases_lt, cond-false, cond-true, le-ltb, lt-l
 use Rattle.std.proofs.lemmas.List.{append-nil, get_or_default, length_push, map-append}
 use Rattle.std.proofs.lemmas.List.Folds.{list_any-from_Any}
 use Rattle.std.proofs.lemmas.List.Sums.{passes_at_first}
-use Rattle.lq_stats.specs.Grouped.{AreGroupsOf, Grouped, HasRows, added, raised, totals_of}
-use Rattle.lq_stats.specs.Groups.{IsCellOf, Key, Row, first_of_each, keys_of, rows_of, same_key}
+use Rattle.lq_stats.specs.Grouped.{AreGroupsOf, Grouped, HasRows, with_row_in_new_group, with_row_in_group, totals_of}
+use Rattle.lq_stats.specs.Groups.{IsCellOf, Key, Row, distinct_keys, keys_of, rows_with_key, same_key}
 use Rattle.lq_stats.specs.Totals.{IsSized, total_of, totals_from, with_cells}
 use Rattle.lq_stats.specs.declared.cell.StatCell.{StatCell}
 use Rattle.lq_stats.specs.declared.cell.StatCell.TheVariants as cell
@@ -21,14 +21,14 @@ use Rattle.lq_stats.proofs.RowLemmas.{rows_of-push, totals_from-push, totals_non
 
 keys_of-push : (columns : ℕ) (rows : List Row) (row : Row) → keys_of columns (rows ++ row ∷ []) ≡ with_key row.key (keys_of columns rows)
 keys_of-push columns rows row =
-    ap first_of_each
+    ap distinct_keys
     (ap (λ keys. (if columns == 0 then [] ∷ [] else []) ++ keys) (map-append (λ (each : Row). each.key) rows (row ∷ []))
     ∙ sym (append_assoc (if columns == 0 then [] ∷ [] else []) (map (λ (each : Row). each.key) rows) (row.key ∷ [])))
     ∙ first_of_more ((if columns == 0 then [] ∷ [] else []) ++ map (λ (each : Row). each.key) rows) row.key
 
 -- what is kept of a group
 abbrev kept : List StatKind → List Row → Key → List Total
-kept kinds rows key = totals_from 0 kinds (rows_of key rows)
+kept kinds rows key = totals_from 0 kinds (rows_with_key key rows)
 
 -- ---- where a key stands
 
@@ -59,17 +59,17 @@ module _ (kinds : List StatKind) (rows : List Row) (row : Row) where
       ap (totals_from 0 kinds) (rows_of-push key rows row)
       ∙ by_key (same_key key row.key)
     where
-      by_key : (same : Bool) → totals_from 0 kinds (rows_of key rows ++ cond same (row ∷ []) [])
-          ≡ cond same (with_cells (totals_from 0 kinds (rows_of key rows)) row.cells) (totals_from 0 kinds (rows_of key rows))
-      by_key true = totals_from-push kinds 0 (rows_of key rows) row
-      by_key false = ap (totals_from 0 kinds) (append-nil (rows_of key rows))
+      by_key : (same : Bool) → totals_from 0 kinds (rows_with_key key rows ++ cond same (row ∷ []) [])
+          ≡ cond same (with_cells (totals_from 0 kinds (rows_with_key key rows)) row.cells) (totals_from 0 kinds (rows_with_key key rows))
+      by_key true = totals_from-push kinds 0 (rows_with_key key rows) row
+      by_key false = ap (totals_from 0 kinds) (append-nil (rows_with_key key rows))
 
   all_kept_more : (keys : List Key) → map (kept kinds (rows ++ row ∷ [])) keys ≡ map (changed row.key (λ totals. with_cells totals row.cells) (kept kinds rows)) keys
   all_kept_more [] = refl
   all_kept_more (key ∷ keys) = λ i. kept_more key i ∷ all_kept_more keys i
 
 pub raised_are : (old : Grouped) (place : ℕ) (cells : List StatCell) (rows : List Row) → position (same_key old.next) old.keys ≡ Some place
-    → AreGroupsOf old rows → AreGroupsOf (raised old place cells) (rows ++ record { key = old.next; cells = cells } ∷ [])
+    → AreGroupsOf old rows → AreGroupsOf (with_row_in_group old place cells) (rows ++ record { key = old.next; cells = cells } ∷ [])
 raised_are old place cells rows found are =
     let row : Row = record { key = old.next; cells = cells } in
     let kinds = old.spec.entries in
@@ -94,14 +94,14 @@ later_none : {X : Type 0} (p : X → Bool) (xs ys : List X) → list_any p (xs +
 later_none p [] ys none = none
 later_none p (x ∷ xs) ys none = later_none p xs ys (or_parts (p x) (list_any p (xs ++ ys)) none).1
 
-no_rows : (key : Key) (rows : List Row) → list_any (same_key key) (map (λ (row : Row). row.key) rows) ≡ false → rows_of key rows ≡ []
+no_rows : (key : Key) (rows : List Row) → list_any (same_key key) (map (λ (row : Row). row.key) rows) ≡ false → rows_with_key key rows ≡ []
 no_rows key [] none = refl
 no_rows key (row ∷ rows) none =
     let parts = or_parts (same_key key row.key) (list_any (same_key key) (map (λ (row : Row). row.key) rows)) none in
     rw parts.0 (no_rows key rows parts.1)
 
 pub added_are : (old : Grouped) (cells : List StatCell) (rows : List Row) → position (same_key old.next) old.keys ≡ None
-    → AreGroupsOf old rows → AreGroupsOf (added old cells) (rows ++ record { key = old.next; cells = cells } ∷ [])
+    → AreGroupsOf old rows → AreGroupsOf (with_row_in_new_group old cells) (rows ++ record { key = old.next; cells = cells } ∷ [])
 added_are old cells rows absent are =
     let row : Row = record { key = old.next; cells = cells } in
     let kinds = old.spec.entries in
@@ -171,14 +171,14 @@ more_rows old new cells has few sized are =
     }
 
 pub raised_has : (old : Grouped) (place : ℕ) (cells : List StatCell) → HasRows old → position (same_key old.next) old.keys ≡ Some place
-    → AllZip IsCellOf old.spec.entries cells → old.count < 2 ^ 40 → HasRows (raised old place cells)
+    → AllZip IsCellOf old.spec.entries cells → old.count < 2 ^ 40 → HasRows (with_row_in_group old place cells)
 raised_has old place cells has found each few =
-    more_rows old (raised old place cells) cells has few (sized_cells old.spec.entries cells each) (raised_are old place cells has.rows found has.are)
+    more_rows old (with_row_in_group old place cells) cells has few (sized_cells old.spec.entries cells each) (raised_are old place cells has.rows found has.are)
 
 pub added_has : (old : Grouped) (cells : List StatCell) → HasRows old → position (same_key old.next) old.keys ≡ None
-    → AllZip IsCellOf old.spec.entries cells → old.count < 2 ^ 40 → HasRows (added old cells)
+    → AllZip IsCellOf old.spec.entries cells → old.count < 2 ^ 40 → HasRows (with_row_in_new_group old cells)
 added_has old cells has absent each few =
-    more_rows old (added old cells) cells has few (sized_cells old.spec.entries cells each) (added_are old cells has.rows absent has.are)
+    more_rows old (with_row_in_new_group old cells) cells has few (sized_cells old.spec.entries cells each) (added_are old cells has.rows absent has.are)
 
 -- ---- no rows
 

@@ -1,8 +1,9 @@
 -- Whole columns of cells, and the rows that they make.
-use Rattle.std.specs.Prelude.{◌≡◌, ◌+◌, ℕ, suc, Bool, true, false, List, [], ◌∷◌, filter_map, fold, if◌then◌else◌, length, map, slice_get}
+use Rattle.std.specs.Prelude.{◌≡◌, ◌+◌, ℕ, suc, Bool, true, false, List, [], ◌∷◌, filter_map, fold}
+use Rattle.std.specs.Prelude.{if◌then◌else◌, length, map, slice_get}
 use Rattle.std.specs.List.{AllByRecursion}
 use Rattle.lq_stats.specs.Groups.{IsCellOf, Row}
-use Rattle.lq_stats.specs.Totals.{with_cell}
+use Rattle.lq_stats.specs.Totals.{with_stat_cell}
 use Rattle.lq_stats.specs.declared.cell.StatCell.{StatCell}
 use Rattle.lq_stats.specs.declared.cell.StatCell.TheVariants as cell
 use Rattle.lq_stats.specs.declared.column.StatColumn.{StatColumn}
@@ -51,11 +52,11 @@ marked_by_both (false ∷ marks) (mark ∷ counted) = marked_by_both marks count
 
 -- the cells of the marked rows more
 abbrev pub with_column : List Bool → Total → List StatCell → Total
-with_column marks old cells = fold with_cell old (marked_cells marks cells)
+with_column marks old cells = fold with_stat_cell old (marked_cells marks cells)
 
 -- the same of each statistic
-abbrev pub with_columns : List Bool → List Total → List (List StatCell) → List Total
-with_columns marks [] columns = []
-with_columns marks (old ∷ later) [] = old ∷ later
-with_columns marks (old ∷ later) (column ∷ columns) =
-    with_column marks old column ∷ with_columns marks later columns
+abbrev pub with_stat_columns : List Bool → List Total → List (List StatCell) → List Total
+with_stat_columns marks [] columns = []
+with_stat_columns marks (old ∷ later) [] = old ∷ later
+with_stat_columns marks (old ∷ later) (column ∷ columns) =
+    with_column marks old column ∷ with_stat_columns marks later columns

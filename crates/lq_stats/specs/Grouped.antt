@@ -1,7 +1,8 @@
 -- Groups while rows are counted.
-use Rattle.std.specs.Prelude.{◌≡◌, ◌≤◌, ◌+◌, ◌^◌, ℕ, List, [], ◌∷◌, ◌++◌, map, length, slice_index_or, slice_set}
+use Rattle.std.specs.Prelude.{◌≡◌, ◌≤◌, ◌+◌, ◌^◌, ℕ, List, [], ◌∷◌, ◌++◌, map, length}
+use Rattle.std.specs.Prelude.{slice_index_or, slice_set}
 use Rattle.std.specs.List.{AllByRecursion}
-use Rattle.lq_stats.specs.Groups.{Key, Line, Row, keys_of, rows_of}
+use Rattle.lq_stats.specs.Groups.{Key, GroupLine, Row, keys_of, rows_with_key}
 use Rattle.lq_stats.specs.Totals.{IsSized, total_of, total_value, totals_from, with_cells}
 use Rattle.lq_stats.specs.declared.cell.StatCell.{StatCell}
 use Rattle.lq_stats.specs.declared.spec.StatsSpec.{StatsSpec}
@@ -19,10 +20,10 @@ pub record Grouped : Type 0 where
 -- what is kept of each group of some rows
 abbrev pub totals_of : StatsSpec → List Row → List (List Total)
 totals_of spec rows =
-    map (λ key. totals_from 0 spec.entries (rows_of key rows)) (keys_of spec.keys rows)
+    map (λ key. totals_from 0 spec.entries (rows_with_key key rows)) (keys_of spec.keys rows)
 
 -- the lines of groups
-abbrev pub kept_lines : List Key → List (List Total) → List Line
+abbrev pub kept_lines : List Key → List (List Total) → List GroupLine
 kept_lines [] totals = []
 kept_lines (key ∷ keys) [] = []
 kept_lines (key ∷ keys) (group ∷ later) =
@@ -35,8 +36,8 @@ pub record AreGroupsOf (groups : Grouped) (rows : List Row) : Type 0 where
   pub count : groups.count ≡ length rows
 
 -- the groups with the next row in the group in a place
-abbrev pub raised : Grouped → ℕ → List StatCell → Grouped
-raised groups place cells =
+abbrev pub with_row_in_group : Grouped → ℕ → List StatCell → Grouped
+with_row_in_group groups place cells =
     record groups {
       next = [];
       totals = slice_set groups.totals place
@@ -45,8 +46,8 @@ raised groups place cells =
     }
 
 -- the groups with the next row in a group of its own
-abbrev pub added : Grouped → List StatCell → Grouped
-added groups cells =
+abbrev pub with_row_in_new_group : Grouped → List StatCell → Grouped
+with_row_in_new_group groups cells =
     record groups {
       next = [];
       keys = groups.keys ++ groups.next ∷ [];

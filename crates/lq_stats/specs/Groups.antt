@@ -1,10 +1,14 @@
 -- Statistics over rows: how rows are put into groups, and the values of a group.
-use Rattle.std.specs.Prelude.{ℕ, suc, ◌≤◌, ◌^◌, ◌==◌, ◌&&◌, Bool, false, not, ℤ, pos, ◌+ℤ◌, List, [], ◌∷◌, ◌++◌, Option, Some, None, if◌then◌else◌, bytes_eq, nat_eq, filter, filter_map, fold, length, map, slice_get, unsigned_abs, unwrap_or, ⊤}
+use Rattle.std.specs.Prelude.{ℕ, suc, ◌≤◌, ◌^◌, ◌==◌, ◌&&◌, Bool, false, not, ℤ, pos, ◌+ℤ◌, List}
+use Rattle.std.specs.Prelude.{[], ◌∷◌, ◌++◌, Option, Some, None, if◌then◌else◌, bytes_eq, nat_eq}
+use Rattle.std.specs.Prelude.{filter, filter_map, fold, length, map, slice_get, unsigned_abs}
+use Rattle.std.specs.Prelude.{unwrap_or, ⊤}
 use Rattle.std.specs.Cmp.Lexicographic.{pointwise}
 use Rattle.std.specs.Int.{int_max, int_min}
 use Rattle.std.specs.Ordering.{int_eq}
 use Rattle.lq_records.specs.Micros.{quotient}
-use Rattle.lq_schema.specs.Value.{Value, Number, Millionths, Words, Texts, Numbers, Pairs, shown}
+use Rattle.lq_schema.specs.Value.{Value, Number, Millionths, Words, Texts, Numbers, Pairs}
+use Rattle.lq_schema.specs.Value.{meaning_of}
 use Rattle.lq_stats.specs.declared.cell.StatCell.{StatCell}
 use Rattle.lq_stats.specs.declared.cell.StatCell.TheVariants as cell
 use Rattle.lq_stats.specs.declared.kind.StatKind.{StatKind}
@@ -49,19 +53,19 @@ abbrev pub same_key : Key → Key → Bool
 same_key = pointwise same_value
 
 -- the different ones of some keys, each where it stood first
-abbrev pub first_of_each : List Key → List Key
-first_of_each [] = []
-first_of_each (key ∷ keys) = key ∷ filter (λ other. not (same_key key other)) (first_of_each keys)
+abbrev pub distinct_keys : List Key → List Key
+distinct_keys [] = []
+distinct_keys (key ∷ keys) = key ∷ filter (λ other. not (same_key key other)) (distinct_keys keys)
 
 -- the keys of the groups, in order of first occurrence; without columns there is always the one
 -- empty key
 abbrev pub keys_of : ℕ → List Row → List Key
 keys_of columns rows =
-    first_of_each ((if columns == 0 then [] ∷ [] else []) ++ map (λ (row : Row). row.key) rows)
+    distinct_keys ((if columns == 0 then [] ∷ [] else []) ++ map (λ (row : Row). row.key) rows)
 
 -- the rows of a group
-abbrev pub rows_of : Key → List Row → List Row
-rows_of key rows = filter (λ (row : Row). same_key key row.key) rows
+abbrev pub rows_with_key : Key → List Row → List Row
+rows_with_key key rows = filter (λ (row : Row). same_key key row.key) rows
 
 -- ---- the values of a group
 
@@ -73,12 +77,12 @@ abbrev pub is_marked : StatCell → Bool
 is_marked (cell.Counted marked) = marked
 is_marked (cell.Number number) = false
 
-abbrev pub number_of : StatCell → Option ℤ
-number_of (cell.Counted marked) = None
-number_of (cell.Number number) = Some number
+abbrev pub number_of_cell : StatCell → Option ℤ
+number_of_cell (cell.Counted marked) = None
+number_of_cell (cell.Number number) = Some number
 
 abbrev pub numbers : List StatCell → List ℤ
-numbers cells = filter_map number_of cells
+numbers cells = filter_map number_of_cell cells
 
 abbrev pub sum_of : List ℤ → ℤ
 sum_of [] = pos 0
@@ -100,32 +104,32 @@ average sum count = if count == 0 then pos 0 else quotient sum count
 
 -- what a statistic says of its cells: how many are marked, or the sum, the least, the greatest or
 -- the average of its numbers, 0 where there are none
-abbrev pub value_of : StatKind → List StatCell → Value
-value_of kind.Count cells = Number (pos (length (filter is_marked cells)))
-value_of kind.Sum cells = Number (sum_of (numbers cells))
-value_of kind.Min cells = Number (unwrap_or (least (numbers cells)) (pos 0))
-value_of kind.Max cells = Number (unwrap_or (greatest (numbers cells)) (pos 0))
-value_of kind.Avg cells = Millionths (average (sum_of (numbers cells)) (length (numbers cells)))
+abbrev pub stat_value : StatKind → List StatCell → Value
+stat_value kind.Count cells = Number (pos (length (filter is_marked cells)))
+stat_value kind.Sum cells = Number (sum_of (numbers cells))
+stat_value kind.Min cells = Number (unwrap_or (least (numbers cells)) (pos 0))
+stat_value kind.Max cells = Number (unwrap_or (greatest (numbers cells)) (pos 0))
+stat_value kind.Avg cells = Millionths (average (sum_of (numbers cells)) (length (numbers cells)))
 
 -- the values of statistics over some rows, the first of which stands in a place
 abbrev pub values_from : ℕ → List StatKind → List Row → List Value
 values_from place [] rows = []
 values_from place (kind ∷ kinds) rows =
-    value_of kind (column place rows) ∷ values_from (suc place) kinds rows
+    stat_value kind (column place rows) ∷ values_from (suc place) kinds rows
 
 -- ---- lines
 
 -- what a reply says of a group
-pub record Line : Type 0 where
+pub record GroupLine : Type 0 where
   pub key : Key
   pub values : List Value
 
 -- what a line says
-abbrev pub shown_line : StatLine → Line
-shown_line line = record { key = map shown line.keys; values = map shown line.values }
+abbrev pub shown_line : StatLine → GroupLine
+shown_line line = record { key = map meaning_of line.keys; values = map meaning_of line.values }
 
 -- the lines of the statistics over some rows, one for each group
-abbrev pub lines_of : StatsSpec → List Row → List Line
-lines_of spec rows =
-    map (λ key. record { key = key; values = values_from 0 spec.entries (rows_of key rows) })
+abbrev pub stat_lines : StatsSpec → List Row → List GroupLine
+stat_lines spec rows =
+    map (λ key. record { key = key; values = values_from 0 spec.entries (rows_with_key key rows) })
     (keys_of spec.keys rows)

@@ -1,5 +1,6 @@
 -- What is kept of the cells of a statistic while rows are counted.
-use Rattle.std.specs.Prelude.{ℕ, suc, ◌≤◌, ◌+◌, ◌*◌, ◌^◌, true, ℤ, pos, ◌+ℤ◌, List, [], ◌∷◌, Option, Some, None, ⊤, filter, length, unwrap_or, unsigned_abs}
+use Rattle.std.specs.Prelude.{ℕ, suc, ◌≤◌, ◌+◌, ◌*◌, ◌^◌, true, ℤ, pos, ◌+ℤ◌, List, [], ◌∷◌, Option}
+use Rattle.std.specs.Prelude.{Some, None, ⊤, filter, length, unwrap_or, unsigned_abs}
 use Rattle.std.specs.Int.{int_max, int_min}
 use Rattle.lq_schema.specs.Value.{Value, Number, Millionths}
 use Rattle.lq_stats.specs.Groups.{Row, average, column, greatest, is_marked, least, numbers, sum_of}
@@ -43,20 +44,21 @@ abbrev pub greater : Option ℤ → ℤ → ℤ
 greater None number = number
 greater (Some greatest) number = int_max greatest number
 
-abbrev pub with_cell : Total → StatCell → Total
-with_cell (total.Count count) (cell.Counted true) = total.Count (count + 1)
-with_cell (total.Sum sum) (cell.Number number) = total.Sum (sum +ℤ number)
-with_cell (total.Min least) (cell.Number number) = total.Min (Some (lesser least number))
-with_cell (total.Max greatest) (cell.Number number) = total.Max (Some (greater greatest number))
-with_cell (total.Avg mean) (cell.Number number) =
+abbrev pub with_stat_cell : Total → StatCell → Total
+with_stat_cell (total.Count count) (cell.Counted true) = total.Count (count + 1)
+with_stat_cell (total.Sum sum) (cell.Number number) = total.Sum (sum +ℤ number)
+with_stat_cell (total.Min least) (cell.Number number) = total.Min (Some (lesser least number))
+with_stat_cell (total.Max greatest) (cell.Number number) =
+    total.Max (Some (greater greatest number))
+with_stat_cell (total.Avg mean) (cell.Number number) =
     total.Avg (record { sum = mean.sum +ℤ number; count = mean.count + 1 })
-with_cell old _ = old
+with_stat_cell old _ = old
 
 -- one cell more of each statistic
 abbrev pub with_cells : List Total → List StatCell → List Total
 with_cells [] cells = []
 with_cells (old ∷ later) [] = old ∷ later
-with_cells (old ∷ later) (cell ∷ cells) = with_cell old cell ∷ with_cells later cells
+with_cells (old ∷ later) (cell ∷ cells) = with_stat_cell old cell ∷ with_cells later cells
 
 -- ---- bounds
 
@@ -74,10 +76,10 @@ IsSmall (total.Max greatest) = ⊤
 IsSmall (total.Avg mean) = (mean.count ≤ 2 ^ 40) × (unsigned_abs mean.sum ≤ 2 ^ 104)
 
 -- kept of so few cells of that size that so many more can be added
-abbrev pub HasRoom : ℕ → Total → Type 0
-HasRoom more (total.Count count) = count + more ≤ 2 ^ 40
-HasRoom more (total.Sum sum) = unsigned_abs sum + more * 2 ^ 64 ≤ 2 ^ 104
-HasRoom more (total.Min least) = ⊤
-HasRoom more (total.Max greatest) = ⊤
-HasRoom more (total.Avg mean) =
+abbrev pub HasRoomForRows : ℕ → Total → Type 0
+HasRoomForRows more (total.Count count) = count + more ≤ 2 ^ 40
+HasRoomForRows more (total.Sum sum) = unsigned_abs sum + more * 2 ^ 64 ≤ 2 ^ 104
+HasRoomForRows more (total.Min least) = ⊤
+HasRoomForRows more (total.Max greatest) = ⊤
+HasRoomForRows more (total.Avg mean) =
     (mean.count + more ≤ 2 ^ 40) × (unsigned_abs mean.sum + more * 2 ^ 64 ≤ 2 ^ 104)

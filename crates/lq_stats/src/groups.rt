@@ -1,11 +1,14 @@
-ghost use Rattle.std.specs.Prelude.{◌≡◌, ◌+◌, ◌<◌, ◌^◌, ◌++◌, ◌∷◌, [], All, IfOk, IfSome, List, None, OnErr, OnOk, Some, ◌≤◌, count_by, length, map, position, slice_get, slice_index_or, slice_set};
+ghost use Rattle.std.specs.Prelude.{◌≡◌, ◌+◌, ◌<◌, ◌^◌, ◌++◌, ◌∷◌, [], All, IfOk, IfSome, List};
+ghost use Rattle.std.specs.Prelude.{None, OnErr, OnOk, Some, ◌≤◌, count_by, length, map, position};
+ghost use Rattle.std.specs.Prelude.{slice_get, slice_index_or, slice_set};
 ghost use Rattle.std.specs.List.{AllByRecursion, AllZip};
-ghost use Rattle.lq_schema.specs.Value.{shown};
-ghost use Rattle.lq_stats.specs.Columns.{IsColumnOf, column_cells, marked_rows, with_columns};
-ghost use Rattle.lq_stats.specs.Groups.{IsCellOf, Row, keys_of, lines_of, same_key, shown_line};
-ghost use Rattle.lq_stats.specs.Grouped.{AreGroupsOf, added, kept_lines, raised, totals_of};
+ghost use Rattle.lq_schema.specs.Value.{meaning_of};
+ghost use Rattle.lq_stats.specs.Columns.{IsColumnOf, column_cells, marked_rows, with_stat_columns};
+ghost use Rattle.lq_stats.specs.Groups.{IsCellOf, Row, keys_of, stat_lines, same_key, shown_line};
+ghost use Rattle.lq_stats.specs.Grouped.{AreGroupsOf, with_row_in_new_group, kept_lines};
+ghost use Rattle.lq_stats.specs.Grouped.{with_row_in_group, totals_of};
 ghost use Rattle.lq_stats.specs.Keys.{key_values};
-ghost use Rattle.lq_stats.specs.Totals.{HasRoom, IsSized, IsSmall, total_of, with_cells};
+ghost use Rattle.lq_stats.specs.Totals.{HasRoomForRows, IsSized, IsSmall, total_of, with_cells};
 
 use crate::cell::StatCell;
 use crate::column::StatColumn;
@@ -96,7 +99,7 @@ impl Groups {
         requires { length self.old.next < self.old.spec.keys }
         ensures groups { (rows : List Row) → AreGroupsOf self.old rows → AreGroupsOf self.new rows }
         ensures spec { self.new.spec ≡ self.old.spec }
-        ensures next { OnOk result (self.new.next ≡ self.old.next ++ shown value.now ∷ []) }
+        ensures next { OnOk result (self.new.next ≡ self.old.next ++ meaning_of value.now ∷ []) }
         ensures count { self.new.count ≡ self.old.count }
         ensures err { OnErr result (self.new ≡ self.old) }
     {
@@ -155,7 +158,7 @@ impl Groups {
     /// runs out.
     pub fn lines(&self) -> Result<Items<StatLine>, Memory>
         ensures { (rows : List Row) → AreGroupsOf self.now rows → IfOk result
-            (λ lines. map shown_line lines ≡ lines_of self.now.spec rows) }
+            (λ lines. map shown_line lines ≡ stat_lines self.now.spec rows) }
     {
         kept_lines(*self.next.allocator(), &self.keys, &self.totals)
     }
@@ -174,7 +177,7 @@ impl Groups {
         requires place { position (same_key self.old.next) self.old.keys ≡ Some place }
         requires cells { AllZip IsCellOf self.old.spec.entries cells.now }
         requires few { self.old.count < 2 ^ 40 }
-        ensures { self.new ≡ raised self.old place cells.now }
+        ensures { self.new ≡ with_row_in_group self.old place cells.now }
     {
         add_row(&mut self.totals, place, cells);
         self.next.clear();
@@ -186,7 +189,7 @@ impl Groups {
         requires place { position (same_key self.old.next) self.old.keys ≡ None }
         requires cells { AllZip IsCellOf self.old.spec.entries cells.now }
         requires few { self.old.count < 2 ^ 40 }
-        ensures ok { OnOk result (self.new ≡ added self.old cells.now) }
+        ensures ok { OnOk result (self.new ≡ with_row_in_new_group self.old cells.now) }
         ensures err { OnErr result (self.new ≡ self.old) }
     {
         let first = totals_of_row(*self.next.allocator(), self.spec.entries.as_slice(), cells)?;
@@ -250,10 +253,10 @@ fn add_row(totals: &mut Vec<Totals>, place: usize, cells: &[StatCell])
 fn add_marked(totals: &mut Vec<Totals>, marks: &[bool], columns: &[StatColumn])
     requires some { 0 < length totals.old.items }
     requires count { All (λ each. length columns.now ≡ length each) totals.old.items }
-    requires room { All (All (HasRoom (length marks.now))) totals.old.items }
+    requires room { All (All (HasRoomForRows (length marks.now))) totals.old.items }
     requires long { All (λ column. length (column_cells column) ≡ length marks.now) columns.now }
     requires sized { All (λ column. AllByRecursion IsSized (column_cells column)) columns.now }
-    ensures { totals.new.items ≡ slice_set totals.old.items 0 (with_columns marks.now
+    ensures { totals.new.items ≡ slice_set totals.old.items 0 (with_stat_columns marks.now
         (slice_index_or totals.old.items 0 []) (map column_cells columns.now)) }
 {
     totals[0].add_columns(marks, columns);
@@ -327,7 +330,7 @@ fn kept_lines(alloc: Global, keys: &KeySet, totals: &[Totals]) -> Result<Items<S
 
 /// The values of a key. The only error is that memory runs out.
 fn values_of(alloc: Global, key: &[KeyCell]) -> Result<Items<Val<'static>>, Memory>
-    ensures { IfOk result (λ values. map shown values ≡ key_values key.now) }
+    ensures { IfOk result (λ values. map meaning_of values ≡ key_values key.now) }
 {
     let mut values = Items::new(alloc);
     for cell in key {

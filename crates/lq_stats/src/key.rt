@@ -1,5 +1,5 @@
 ghost use Rattle.std.specs.Prelude.{◌≡◌, IfOk};
-ghost use Rattle.lq_schema.specs.Value.{shown};
+ghost use Rattle.lq_schema.specs.Value.{meaning_of};
 ghost use Rattle.lq_stats.specs.Keys.{cell_value};
 
 use lq_records::{Items, Memory, Micro, Text};
@@ -39,7 +39,7 @@ impl Drop for KeyCell {
 impl KeyCell {
     /// A copy of a value. The only error is that memory runs out.
     pub fn new(alloc: Global, value: &Val<'_>) -> Result<KeyCell, Memory>
-        ensures { IfOk result (λ cell. cell_value cell ≡ shown value.now) }
+        ensures { IfOk result (λ cell. cell_value cell ≡ meaning_of value.now) }
     {
         Ok(match value {
             Val::Int(number) => KeyCell::Int(*number),
@@ -54,7 +54,7 @@ impl KeyCell {
 
     /// The value, whose text is `Val::Own`. The only error is that memory runs out.
     pub fn to_value(&self, alloc: Global) -> Result<Val<'static>, Memory>
-        ensures { IfOk result (λ value. shown value ≡ cell_value self.now) }
+        ensures { IfOk result (λ value. meaning_of value ≡ cell_value self.now) }
     {
         Ok(match self {
             KeyCell::Int(number) => Val::Int(*number),

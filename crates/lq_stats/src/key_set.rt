@@ -1,4 +1,5 @@
-ghost use Rattle.std.specs.Prelude.{◌≡◌, ◌<◌, ◌++◌, ◌∷◌, [], None, Some, IfErr, IfSome, OnErr, OnOk, length, position, slice_get};
+ghost use Rattle.std.specs.Prelude.{◌≡◌, ◌<◌, ◌++◌, ◌∷◌, [], None, Some, IfErr, IfSome, OnErr};
+ghost use Rattle.std.specs.Prelude.{OnOk, length, position, slice_get};
 ghost use Rattle.lq_stats.specs.Groups.{same_key};
 ghost use Rattle.lq_stats.specs.Keys.{key_values};
 

@@ -1,9 +1,10 @@
 ghost use Rattle.std.specs.Prelude.{◌≡◌, ◌≤◌, ◌^◌, [], length, map, unsigned_abs};
 ghost use Rattle.std.specs.List.{AllByRecursion};
-ghost use Rattle.lq_schema.specs.Value.{shown};
+ghost use Rattle.lq_schema.specs.Value.{meaning_of};
 ghost use Rattle.lq_stats.specs.Columns.{column_cells, marked_by_both, with_column};
 ghost use Rattle.lq_stats.specs.Groups.{average};
-ghost use Rattle.lq_stats.specs.Totals.{HasRoom, IsSized, IsSmall, greater, lesser, total_of, total_value, with_cell};
+ghost use Rattle.lq_stats.specs.Totals.{HasRoomForRows, IsSized, IsSmall, greater, lesser};
+ghost use Rattle.lq_stats.specs.Totals.{total_of, total_value, with_stat_cell};
 ghost use Rattle.lq_stats.specs.declared.cell.StatCell.TheVariants as cell;
 
 use crate::cell::StatCell;
@@ -54,7 +55,7 @@ impl Total {
     pub fn with(self, cell: StatCell) -> Total
         requires small { IsSmall self }
         requires sized { IsSized cell }
-        ensures { result ≡ with_cell self cell }
+        ensures { result ≡ with_stat_cell self cell }
     {
         match (self, cell) {
             (Total::Count(count), StatCell::Counted(true)) => Total::Count(count + 1),
@@ -76,7 +77,7 @@ impl Total {
     /// What is kept with the cells of the marked rows more.
     pub fn with_column(self, marks: &[bool], column: &StatColumn) -> Total
         requires long { length (column_cells column.now) ≡ length marks.now }
-        requires room { HasRoom (length marks.now) self }
+        requires room { HasRoomForRows (length marks.now) self }
         requires sized { AllByRecursion IsSized (column_cells column.now) }
         ensures { result ≡ with_column marks.now self (column_cells column.now) }
     {
@@ -88,7 +89,7 @@ impl Total {
 
     fn with_marks(self, marks: &[bool], counted: &[bool]) -> Total
         requires long { length counted.now ≡ length marks.now }
-        requires room { HasRoom (length marks.now) self }
+        requires room { HasRoomForRows (length marks.now) self }
         ensures { result ≡ with_column marks.now self (map cell.Counted counted.now) }
     {
         match self {
@@ -99,7 +100,7 @@ impl Total {
 
     fn with_numbers(self, marks: &[bool], numbers: &[i128]) -> Total
         requires long { length numbers.now ≡ length marks.now }
-        requires room { HasRoom (length marks.now) self }
+        requires room { HasRoomForRows (length marks.now) self }
         requires sized { AllByRecursion IsSized (map cell.Number numbers.now) }
         ensures { result ≡ with_column marks.now self (map cell.Number numbers.now) }
     {
@@ -115,7 +116,7 @@ impl Total {
     /// The value of the statistic.
     pub fn value(self) -> Val<'static>
         requires { IsSmall self }
-        ensures { shown result ≡ total_value self }
+        ensures { meaning_of result ≡ total_value self }
     {
         match self {
             Total::Count(count) => Val::Int(i128::from(count)),

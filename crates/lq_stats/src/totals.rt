@@ -1,8 +1,9 @@
 ghost use Rattle.std.specs.Prelude.{◌≡◌, [], All, IfOk, length, map};
 ghost use Rattle.std.specs.List.{AllByRecursion};
-ghost use Rattle.lq_schema.specs.Value.{shown};
-ghost use Rattle.lq_stats.specs.Columns.{column_cells, with_columns};
-ghost use Rattle.lq_stats.specs.Totals.{HasRoom, IsSized, IsSmall, total_of, total_value, with_cells};
+ghost use Rattle.lq_schema.specs.Value.{meaning_of};
+ghost use Rattle.lq_stats.specs.Columns.{column_cells, with_stat_columns};
+ghost use Rattle.lq_stats.specs.Totals.{HasRoomForRows, IsSized, IsSmall, total_of, total_value};
+ghost use Rattle.lq_stats.specs.Totals.{with_cells};
 
 use crate::cell::StatCell;
 use crate::column::StatColumn;
@@ -51,11 +52,11 @@ impl Totals {
     /// Adds to each statistic the cells of the marked rows, of which it has a column.
     pub fn add_columns(&mut self, marks: &[bool], columns: &[StatColumn])
         requires same_length { length columns.now ≡ length self.old }
-        requires room { All (HasRoom (length marks.now)) self.old }
+        requires room { All (HasRoomForRows (length marks.now)) self.old }
         requires long { All (λ column. length (column_cells column) ≡ length marks.now)
             columns.now }
         requires sized { All (λ column. AllByRecursion IsSized (column_cells column)) columns.now }
-        ensures { self.new ≡ with_columns marks.now self.old (map column_cells columns.now) }
+        ensures { self.new ≡ with_stat_columns marks.now self.old (map column_cells columns.now) }
     {
         add_columns(self.each.as_mut_slice(), marks, columns);
     }
@@ -63,7 +64,7 @@ impl Totals {
     /// The values of the statistics. The only error is that memory runs out.
     pub fn values(&self, alloc: Global) -> Result<Items<Val<'static>>, Memory>
         requires { All IsSmall self.now }
-        ensures { IfOk result (λ values. map shown values ≡ map total_value self.now) }
+        ensures { IfOk result (λ values. map meaning_of values ≡ map total_value self.now) }
     {
         values_of(alloc, self.each.as_slice())
     }
@@ -82,10 +83,10 @@ fn add_cells(totals: &mut [Total], cells: &[StatCell])
 
 fn add_columns(totals: &mut [Total], marks: &[bool], columns: &[StatColumn])
     requires same_length { length columns.now ≡ length totals.old }
-    requires room { All (HasRoom (length marks.now)) totals.old }
+    requires room { All (HasRoomForRows (length marks.now)) totals.old }
     requires long { All (λ column. length (column_cells column) ≡ length marks.now) columns.now }
     requires sized { All (λ column. AllByRecursion IsSized (column_cells column)) columns.now }
-    ensures { totals.new ≡ with_columns marks.now totals.old (map column_cells columns.now) }
+    ensures { totals.new ≡ with_stat_columns marks.now totals.old (map column_cells columns.now) }
 {
     for (i, column) in columns.iter().enumerate() {
         totals[i] = totals[i].with_column(marks, column);
@@ -94,7 +95,7 @@ fn add_columns(totals: &mut [Total], marks: &[bool], columns: &[StatColumn])
 
 fn values_of(alloc: Global, totals: &[Total]) -> Result<Items<Val<'static>>, Memory>
     requires { All IsSmall totals.now }
-    ensures { IfOk result (λ values. map shown values ≡ map total_value totals.now) }
+    ensures { IfOk result (λ values. map meaning_of values ≡ map total_value totals.now) }
 {
     let mut values = Items::new(alloc);
     for total in totals {

@@ -15,7 +15,7 @@ use Rattle.lq_statehist.specs.Facts.{Subject, known_at}
 use Rattle.lq_statehist.specs.History.{history, slice_of}
 use Rattle.lq_statehist.specs.Notes.{notes_of}
 use Rattle.lq_statehist.specs.Slices.{slices_of, subjects_of}
-use Rattle.lq_statehist.specs.Tiling.{Piece, pieces_of}
+use Rattle.lq_statehist.specs.Tiling.{HistoryPiece, pieces_between}
 use Rattle.lq_statehist.specs.declared.slice.Slice.{Slice}
 use Rattle.lq_tables.specs.Rows.{history_row, rows_of, sees_row}
 use Rattle.lq_tables.specs.declared.row.Row.{Row}
@@ -71,11 +71,11 @@ module _ (s : State) (view : View) (window : Window) where
   told_kept : (about : Subject) → filter (sees_row s view) (map (history_row window) (told about))
       ≡ (if sees_object view about.object then map (history_row window) (told about) else [])
   told_kept about =
-      let pieces : List Piece = pieces_of (known_at about (notes_of s.base s.log)) window.from window.until in
-      let made : map (history_row window) (told about) ≡ map (λ (piece : Piece). history_row window (slice_of about.object piece)) pieces
+      let pieces : List HistoryPiece = pieces_between (known_at about (notes_of s.base s.log)) window.from window.until in
+      let made : map (history_row window) (told about) ≡ map (λ (piece : HistoryPiece). history_row window (slice_of about.object piece)) pieces
       = map-map (history_row window) (slice_of about.object) pieces in
       ap (filter (sees_row s view)) made
-      ∙ kept_alike (λ (piece : Piece). history_row window (slice_of about.object piece)) (sees_row s view) pieces (sees_object view about.object) (λ piece. refl)
+      ∙ kept_alike (λ (piece : HistoryPiece). history_row window (slice_of about.object piece)) (sees_row s view) pieces (sees_object view about.object) (λ piece. refl)
       ∙ ap (λ (rows : List Row). if sees_object view about.object then rows else []) (sym made)
 
   pub history_seen : map (history_row window) (slices_of s.base view s.log window.from window.until) ≡ rows_of s view window table.StateHist

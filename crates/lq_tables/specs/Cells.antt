@@ -13,17 +13,23 @@ use Rattle.lq_schema.specs.declared.columns.OwnColumn.TheVariants as own
 use Rattle.lq_schema.specs.declared.service.ServiceColumn.{ServiceColumn}
 use Rattle.lq_schema.specs.declared.service_group.ServiceGroupColumn.{ServiceGroupColumn}
 use Rattle.lq_schema.specs.declared.service_group.ServiceGroupColumn.TheVariants as service_group
-use Rattle.lq_schema.specs.Kinds.{contact_group_kind, host_group_kind, host_kind, service_group_kind, service_kind}
+use Rattle.lq_schema.specs.Kinds.{contact_group_kind, host_group_kind, host_kind}
+use Rattle.lq_schema.specs.Kinds.{service_group_kind, service_kind}
 use Rattle.lq_schema.specs.Value.{Value, Words, Texts, Pairs, empty_value}
 use Rattle.lq_live.specs.State.{State}
 use Rattle.lq_auth.specs.Rights.{sees_host, sees_service}
 use Rattle.lq_auth.specs.declared.view.View.{View}
 use Rattle.lq_columns.specs.Names.{contact_names_of, host_names_of}
-use Rattle.lq_columns.specs.Cells.{HostRecord, ServiceRecord, host_cell, hosts_cell, service_cell, services_cell}
+use Rattle.lq_columns.specs.Cells.{HostRecord, ServiceRecord, host_cell, hosts_cell, service_cell}
+use Rattle.lq_columns.specs.Cells.{services_cell}
 use Rattle.lq_columns.specs.declared.scope.Scope.TheVariants as scope
-use Rattle.lq_tables.specs.About.{HostGroupRecord, ServiceGroupRecord, row_command, row_comment, row_contact, row_contact_group, row_downtime, row_entry, row_host, row_host_group, row_line, row_period, row_service, row_service_group, row_slice}
+use Rattle.lq_tables.specs.About.{HostGroupRecord, ServiceGroupRecord, row_command, row_comment}
+use Rattle.lq_tables.specs.About.{row_contact, row_contact_group, row_downtime, row_entry, row_host}
+use Rattle.lq_tables.specs.About.{row_host_group, row_line, row_period, row_service}
+use Rattle.lq_tables.specs.About.{row_service_group, row_slice}
 use Rattle.lq_tables.specs.declared.row.Row.{Row}
-use Rattle.lq_tables.specs.Parts.{command_cell, comment_cell, contact_cell, downtime_cell, line_cell, pairs_of, period_cell, program_part, schema_cell}
+use Rattle.lq_tables.specs.Parts.{command_cell, comment_cell, contact_cell, downtime_cell}
+use Rattle.lq_tables.specs.Parts.{line_cell, pairs_of, period_cell, program_part, schema_cell}
 use Rattle.lq_tables.specs.Slices.{slice_cell}
 
 -- ---- groups

@@ -4,7 +4,8 @@ use Rattle.lq_schema.specs.declared.columns.OwnColumn.{OwnColumn}
 use Rattle.lq_schema.specs.declared.columns.OwnColumn.TheVariants as own
 use Rattle.lq_schema.specs.declared.schema_column.SchemaColumn.TheVariants as schema
 use Rattle.lq_schema.specs.Kinds.{own_kind}
-use Rattle.lq_columns.specs.Plain.{IsHeldByHost, IsHeldByService, IsPlain, IsSearchedAtHost, IsSearchedAtService}
+use Rattle.lq_columns.specs.Plain.{IsHeldByHost, IsHeldByService, IsPlain, IsSearchedAtHost}
+use Rattle.lq_columns.specs.Plain.{IsSearchedAtService}
 
 -- numbers and single texts, but not the whole name of a column, which is put together
 abbrev pub IsLight : OwnColumn → Type 0

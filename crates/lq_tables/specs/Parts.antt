@@ -29,7 +29,8 @@ use Rattle.lq_records.specs.declared.ids.ServiceId.{ServiceId}
 use Rattle.lq_events.specs.declared.log_entry.LogEntry.{LogEntry}
 use Rattle.lq_events.specs.declared.status.Comment.{Comment}
 use Rattle.lq_events.specs.declared.status.Downtime.{Downtime}
-use Rattle.lq_schema.specs.Kinds.{command_kind, comment_kind, contact_kind, downtime_kind, line_kind, own_kind, period_kind, program_kind, schema_kind}
+use Rattle.lq_schema.specs.Kinds.{command_kind, comment_kind, contact_kind, downtime_kind}
+use Rattle.lq_schema.specs.Kinds.{line_kind, own_kind, period_kind, program_kind, schema_kind}
 use Rattle.lq_schema.specs.Names.{full_name, table_name}
 use Rattle.lq_schema.specs.Value.{Value, Number, Words, empty_value}
 use Rattle.lq_log.specs.LastTold.{is_period_on}

@@ -1,5 +1,6 @@
 -- The rows of each table, in order.
-use Rattle.std.specs.Prelude.{ℕ, ◌==◌, ◌&&◌, nat_le, nat_lt, Bool, true, false, List, [], ◌∷◌, length, map, filter}
+use Rattle.std.specs.Prelude.{ℕ, ◌==◌, ◌&&◌, nat_le, nat_lt, Bool, true, false, List, [], ◌∷◌}
+use Rattle.std.specs.Prelude.{length, map, filter}
 use Rattle.std.specs.List.{enumerate_from, flat_map, range_with_len}
 use Rattle.std.specs.Option.{option_map_or}
 use Rattle.lq_records.specs.Places.{holds_at}
@@ -15,7 +16,8 @@ use Rattle.lq_events.specs.declared.log_entry.LogEntry.{LogEntry}
 use Rattle.lq_log.specs.Told.{object_of}
 use Rattle.lq_live.specs.State.{State}
 use Rattle.lq_auth.specs.Lines.{sees_line}
-use Rattle.lq_auth.specs.Rights.{sees_host, sees_host_group, sees_object, sees_service, sees_service_group}
+use Rattle.lq_auth.specs.Rights.{sees_host, sees_host_group, sees_object, sees_service}
+use Rattle.lq_auth.specs.Rights.{sees_service_group}
 use Rattle.lq_auth.specs.declared.view.View.{View}
 use Rattle.lq_auth.specs.declared.view.View.TheVariants.{All}
 use Rattle.lq_statehist.specs.Slices.{slices_of}
@@ -31,8 +33,8 @@ abbrev pub places_of : {A : Type 0} → List A → List ℕ
 places_of items = range_with_len 0 (length items)
 
 -- each item with its place before it
-abbrev pub numbered : {A : Type 0} → List A → List (ℕ × A)
-numbered items = enumerate_from 0 items
+abbrev pub with_places : {A : Type 0} → List A → List (ℕ × A)
+with_places items = enumerate_from 0 items
 
 -- ---- the members of groups, as they are listed
 
@@ -99,11 +101,11 @@ table_rows s window table.Log =
     map row.Line (filter (has_line_within window s.log) (places_of s.log))
 table_rows s window table.Status = row.Status ∷ []
 table_rows s window table.Columns = map row.Column (places_of schema)
-table_rows s window table.HostsByGroup = flat_map host_group_rows (numbered s.base.host_groups)
+table_rows s window table.HostsByGroup = flat_map host_group_rows (with_places s.base.host_groups)
 table_rows s window table.ServicesByGroup =
-    flat_map service_group_rows (numbered s.base.service_groups)
+    flat_map service_group_rows (with_places s.base.service_groups)
 table_rows s window table.ServicesByHostGroup =
-    flat_map (group_service_rows s.base.services) (numbered s.base.host_groups)
+    flat_map (group_service_rows s.base.services) (with_places s.base.host_groups)
 table_rows s window table.StateHist =
     map (history_row window) (slices_of s.base All s.log window.from window.until)
 

@@ -1,5 +1,6 @@
 -- The values of the columns on slices of histories.
-use Rattle.std.specs.Prelude.{ℕ, ◌-◌, ◌*◌, ◌/◌, ◌==◌, ℤ, pos, negsuc, Option, Some, None, List, [], if◌then◌else◌}
+use Rattle.std.specs.Prelude.{ℕ, ◌-◌, ◌*◌, ◌/◌, ◌==◌, ℤ, pos, negsuc, Option, Some, None, List, []}
+use Rattle.std.specs.Prelude.{if◌then◌else◌}
 use Rattle.std.specs.Ordering.{int_eq}
 use Rattle.lq_records.specs.Places.{list_at}
 use Rattle.lq_records.specs.declared.base.Base.{Base}
@@ -13,7 +14,7 @@ use Rattle.lq_schema.specs.Kinds.{slice_kind}
 use Rattle.lq_schema.specs.Value.{Value, Number, Words, empty_value}
 use Rattle.lq_statehist.specs.declared.slice.Slice.{Slice}
 use Rattle.lq_live.specs.State.{State}
-use Rattle.lq_columns.specs.Cells.{flag, natural, period_of}
+use Rattle.lq_columns.specs.Cells.{flag, natural, notification_period_of}
 use Rattle.lq_tables.specs.declared.history_row.HistoryRow.{HistoryRow}
 
 -- ---- seconds
@@ -31,8 +32,8 @@ abbrev pub millionths : ℕ → ℕ → ℕ
 millionths seconds whole = if whole == 0 then 0 else seconds * 1000000 / whole
 
 -- how much of the asked interval a slice takes, in millionths
-abbrev pub part_of : HistoryRow → ℕ
-part_of row = millionths (duration_of row.slice) (row.until - row.from)
+abbrev pub part_of_interval : HistoryRow → ℕ
+part_of_interval row = millionths (duration_of row.slice) (row.until - row.from)
 
 -- ---- what a slice is of
 
@@ -65,7 +66,7 @@ slice_cell s (Some row) slice.Time = natural row.slice.from
 slice_cell s (Some row) slice.From = natural row.slice.from
 slice_cell s (Some row) slice.Until = natural row.slice.until
 slice_cell s (Some row) slice.Duration = natural (duration_of row.slice)
-slice_cell s (Some row) slice.DurationPart = natural (part_of row)
+slice_cell s (Some row) slice.DurationPart = natural (part_of_interval row)
 slice_cell s (Some row) slice.DurationOk = natural (seconds_in (pos 0) row.slice)
 slice_cell s (Some row) slice.DurationWarning = natural (seconds_in (pos 1) row.slice)
 slice_cell s (Some row) slice.DurationCritical = natural (seconds_in (pos 2) row.slice)
@@ -77,7 +78,8 @@ slice_cell s (Some row) slice.InDowntime = flag row.slice.in_downtime
 slice_cell s (Some row) slice.InHostDowntime = flag row.slice.in_host_downtime
 slice_cell s (Some row) slice.IsFlapping = flag row.slice.is_flapping
 slice_cell s (Some row) slice.InNotificationPeriod = flag row.slice.in_period
-slice_cell s (Some row) slice.NotificationPeriod = Words (period_of s.base row.slice.object)
+slice_cell s (Some row) slice.NotificationPeriod =
+    Words (notification_period_of s.base row.slice.object)
 slice_cell s (Some row) slice.HostName = Words (host_name_of s.base row.slice.object)
 slice_cell s (Some row) slice.ServiceDescription = Words (description_of s.base row.slice.object)
 slice_cell s (Some row) slice.LogOutput = Words (output_at s.log row.slice.line)

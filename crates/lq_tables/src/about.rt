@@ -5,7 +5,11 @@ ghost use Rattle.std.specs.List.{slice_get};
 ghost use Rattle.std.specs.Option.{option_and_then, option_copied, option_map};
 ghost use Rattle.lq_columns.specs.Cells.{host_record, service_record};
 ghost use Rattle.lq_records.specs.declared.object.Object.TheVariants as object;
-ghost use Rattle.lq_tables.specs.About.{comment_with, downtime_with, host_of_object, row_command, row_comment, row_contact, row_contact_group, row_downtime, row_entry, row_host_group_id, row_line, row_object, row_period, row_service_group_id, row_slice, service_of_object};
+ghost use Rattle.lq_tables.specs.About.{comment_with, downtime_with, host_of_object, row_command};
+ghost use Rattle.lq_tables.specs.About.{row_comment, row_contact, row_contact_group, row_downtime};
+ghost use Rattle.lq_tables.specs.About.{row_entry, row_host_group_id, row_line, row_object};
+ghost use Rattle.lq_tables.specs.About.{row_period, row_service_group_id, row_slice};
+ghost use Rattle.lq_tables.specs.About.{service_of_object};
 
 use crate::history_row::HistoryRow;
 use crate::row::Row;

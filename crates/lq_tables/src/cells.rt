@@ -3,10 +3,11 @@ ghost use Rattle.std.specs.Option.{IfSome, IsSome, option_map};
 ghost use Rattle.lq_auth.specs.declared.view.View.{View};
 ghost use Rattle.lq_columns.specs.Cells.{host_at};
 ghost use Rattle.lq_columns.specs.Names.{IsContactNamed, has_text};
-ghost use Rattle.lq_columns.specs.Plain.{HasNumbers, HasTexts, IsHeldByHost, IsHeldByService, IsHeldByStatus};
+ghost use Rattle.lq_columns.specs.Plain.{HasNumbers, HasTexts, IsHeldByHost, IsHeldByService};
+ghost use Rattle.lq_columns.specs.Plain.{IsHeldByStatus};
 ghost use Rattle.lq_live.specs.State.{State};
 ghost use Rattle.lq_schema.specs.Kinds.{host_kind, own_kind, service_kind, status_kind};
-ghost use Rattle.lq_schema.specs.Value.{Number, Texts, Words, empty_value, shown};
+ghost use Rattle.lq_schema.specs.Value.{Number, Texts, Words, empty_value, meaning_of};
 ghost use Rattle.lq_schema.specs.declared.columns.ColKind.TheVariants as column_kind;
 ghost use Rattle.lq_schema.specs.declared.columns.OwnColumn.TheVariants as own;
 ghost use Rattle.lq_schema.specs.declared.host.HostColumn.TheVariants as host_column;
@@ -181,7 +182,7 @@ impl<'a, 'r> RowCells<'a, 'r> {
     /// the only error.
     pub fn value(&self, alloc: Global, c: Col) -> Result<Val<'a>, Memory>
         ensures value { IfOk result (λ v.
-            shown v ≡ cell_of self.now.state self.now.view self.now.row c) }
+            meaning_of v ≡ cell_of self.now.state self.now.view self.now.row c) }
         ensures plain { IsLight c.own → IsOk result }
     {
         let (live, row, view) = (self.live, self.row, self.view);
@@ -529,7 +530,7 @@ pub fn cell<'a>(
     r: &Row,
     view: &'a View,
 ) -> Result<Val<'a>, Memory>
-    ensures value { IfOk result (λ v. shown v ≡ cell_of live.now.state view.now r.now c) }
+    ensures value { IfOk result (λ v. meaning_of v ≡ cell_of live.now.state view.now r.now c) }
     ensures plain { IsLight c.own → IsOk result }
 {
     RowCells::of(live, r, view).value(alloc, c)

@@ -6,9 +6,10 @@ ghost use Rattle.lq_columns.specs.Names.{host_names_of};
 ghost use Rattle.lq_columns.specs.Plain.{HasTexts, IsPlain};
 ghost use Rattle.lq_records.specs.declared.base.Base.{Base};
 ghost use Rattle.lq_schema.specs.Kinds.{contact_group_kind, host_group_kind, service_group_kind};
-ghost use Rattle.lq_schema.specs.Value.{Pairs, Texts, Words, shown};
+ghost use Rattle.lq_schema.specs.Value.{Pairs, Texts, Words, meaning_of};
 ghost use Rattle.lq_tables.specs.About.{host_group_at, service_group_at};
-ghost use Rattle.lq_tables.specs.Cells.{contact_group_cell, host_group_cell, host_group_part, service_group_cell, service_group_part};
+ghost use Rattle.lq_tables.specs.Cells.{contact_group_cell, host_group_cell, host_group_part};
+ghost use Rattle.lq_tables.specs.Cells.{service_group_cell, service_group_part};
 ghost use Rattle.lq_tables.specs.Parts.{pairs_of};
 
 use crate::pairs::pairs_of;
@@ -50,7 +51,7 @@ pub(crate) fn contact_group_value<'a>(
     column: ContactGroupColumn,
 ) -> Result<Val<'a>, Memory>
     ensures value { IfOk result (λ v.
-        shown v ≡ contact_group_cell base.now (option_copied group.entry) column) }
+        meaning_of v ≡ contact_group_cell base.now (option_copied group.entry) column) }
     ensures plain { IsPlain (contact_group_kind column) → IsOk result }
 {
     let Some(group) = group else {
@@ -105,7 +106,7 @@ pub(crate) fn host_group_value<'a>(
     column: HostGroupColumn,
 ) -> Result<Val<'a>, Memory>
     ensures value { IfOk result (λ v.
-        shown v ≡ host_group_part live.now.state view.now
+        meaning_of v ≡ host_group_part live.now.state view.now
         (option_and_then (host_group_at live.now.state.base) id) column) }
     ensures plain { IsPlain (host_group_kind column) → IsOk result }
 {
@@ -136,7 +137,7 @@ fn seen_hosts<'a>(
     view: &View,
     group: &HostGroup,
 ) -> Result<Val<'a>, Memory>
-    ensures { IfOk result (λ v. shown v ≡ Texts
+    ensures { IfOk result (λ v. meaning_of v ≡ Texts
         (host_names_of live.now.state.base (filter (sees_host view.now) group.now.members))) }
 {
     let members = view.seen_of(alloc, group.members.as_slice())?;
@@ -183,7 +184,7 @@ pub(crate) fn service_group_value<'a>(
     column: ServiceGroupColumn,
 ) -> Result<Val<'a>, Memory>
     ensures value { IfOk result (λ v.
-        shown v ≡ service_group_part live.now.state view.now
+        meaning_of v ≡ service_group_part live.now.state view.now
         (option_and_then (service_group_at live.now.state.base) id) column) }
     ensures plain { IsPlain (service_group_kind column) → IsOk result }
 {
@@ -213,7 +214,7 @@ fn seen_services<'a>(
     view: &View,
     group: &ServiceGroup,
 ) -> Result<Val<'a>, Memory>
-    ensures { IfOk result (λ v. shown v ≡ Pairs
+    ensures { IfOk result (λ v. meaning_of v ≡ Pairs
         (pairs_of live.now.state.base (filter (sees_service view.now) group.now.members))) }
 {
     let members = view.seen_of(alloc, group.members.as_slice())?;

@@ -4,7 +4,7 @@ ghost use Rattle.std.specs.Prelude.{◌≡◌};
 ghost use Rattle.std.specs.Option.{IfSome, IsSome, option_copied};
 ghost use Rattle.lq_columns.specs.Plain.{HasNumbers, HasTexts};
 ghost use Rattle.lq_schema.specs.Kinds.{line_kind};
-ghost use Rattle.lq_schema.specs.Value.{Number, Words, shown};
+ghost use Rattle.lq_schema.specs.Value.{Number, Words, meaning_of};
 ghost use Rattle.lq_tables.specs.Parts.{line_cell};
 
 use lq_columns::{empty_number, empty_text, empty_value};
@@ -56,7 +56,7 @@ pub(crate) fn line_text(line: Option<&LogEntry>, column: LineColumn) -> Option<&
 }
 
 pub(crate) fn line_value(alloc: Global, line: Option<&LogEntry>, column: LineColumn) -> Val<'_>
-    ensures { shown result ≡ line_cell (option_copied line.entry) column }
+    ensures { meaning_of result ≡ line_cell (option_copied line.entry) column }
 {
     let Some(line) = line else {
         return empty_value(alloc, OwnColumn::Line(column).kind());

@@ -1,8 +1,11 @@
-ghost use Rattle.std.specs.Prelude.{◌≡◌, ◌<◌, ◌^◌, [], ◌∷◌, ◌++◌, IfNone, IfOk, IfSome, OnOk, false, length, map, filter};
+ghost use Rattle.std.specs.Prelude.{◌≡◌, ◌<◌, ◌^◌, [], ◌∷◌, ◌++◌, IfNone, IfOk, IfSome, OnOk};
+ghost use Rattle.std.specs.Prelude.{false, length, map, filter};
 ghost use Rattle.std.specs.List.{flat_map, range_with_len};
 ghost use Rattle.lq_live.specs.Ids.{HasRisingIds};
 ghost use Rattle.lq_schema.specs.declared.columns.Table.TheVariants as table;
-ghost use Rattle.lq_tables.specs.Rows.{group_service_rows, has_line_within, host_group_rows, is_history, is_within, numbered, places_of, runs_on, service_group_rows, service_rows, table_rows};
+ghost use Rattle.lq_tables.specs.Rows.{group_service_rows, has_line_within, host_group_rows};
+ghost use Rattle.lq_tables.specs.Rows.{is_history, is_within, with_places, places_of, runs_on};
+ghost use Rattle.lq_tables.specs.Rows.{service_group_rows, service_rows, table_rows};
 ghost use Rattle.lq_tables.specs.Schema.{schema};
 ghost use Rattle.lq_tables.specs.declared.row.Row.TheVariants as row;
 
@@ -125,7 +128,7 @@ fn column_rows(alloc: Global) -> Result<Vec<Row>, Memory>
 
 fn hosts_by_group(alloc: Global, groups: &[HostGroup]) -> Result<Vec<Row>, Memory>
     requires few { length groups.now < 2 ^ 32 }
-    ensures { IfOk result (λ rows. rows.items ≡ flat_map host_group_rows (numbered groups.now)) }
+    ensures { IfOk result (λ rows. rows.items ≡ flat_map host_group_rows (with_places groups.now)) }
 {
     let mut rows = Vec::new(alloc);
     for (place, group) in groups.iter().enumerate() {
@@ -149,7 +152,8 @@ fn push_hosts(rows: &mut Vec<Row>, group: HostGroupId, members: &[HostId]) -> Re
 
 fn services_by_group(alloc: Global, groups: &[ServiceGroup]) -> Result<Vec<Row>, Memory>
     requires few { length groups.now < 2 ^ 32 }
-    ensures { IfOk result (λ rows. rows.items ≡ flat_map service_group_rows (numbered groups.now)) }
+    ensures { IfOk result (λ rows. rows.items ≡ flat_map service_group_rows
+        (with_places groups.now)) }
 {
     let mut rows = Vec::new(alloc);
     for (place, group) in groups.iter().enumerate() {
@@ -184,7 +188,7 @@ fn services_by_host_group(
     requires few { length services.now < 2 ^ 32 }
     requires few_groups { length groups.now < 2 ^ 32 }
     ensures { IfOk result (λ rows.
-        rows.items ≡ flat_map (group_service_rows services.now) (numbered groups.now)) }
+        rows.items ≡ flat_map (group_service_rows services.now) (with_places groups.now)) }
 {
     let mut rows = Vec::new(alloc);
     for (place, group) in groups.iter().enumerate() {

@@ -5,7 +5,7 @@ ghost use Rattle.std.specs.Option.{IfSome, IsSome, option_copied};
 ghost use Rattle.lq_columns.specs.Plain.{HasNumbers, HasTexts};
 ghost use Rattle.lq_live.specs.State.{State};
 ghost use Rattle.lq_schema.specs.Kinds.{period_kind};
-ghost use Rattle.lq_schema.specs.Value.{Number, Words, shown};
+ghost use Rattle.lq_schema.specs.Value.{Number, Words, meaning_of};
 ghost use Rattle.lq_tables.specs.Parts.{period_cell};
 
 use lq_columns::{empty_number, empty_text, empty_value, flag};
@@ -55,7 +55,7 @@ pub(crate) fn period_value<'a>(
     period: Option<&'a Period>,
     column: PeriodColumn,
 ) -> Val<'a>
-    ensures { shown result ≡ period_cell live.now.state (option_copied period.entry) column }
+    ensures { meaning_of result ≡ period_cell live.now.state (option_copied period.entry) column }
 {
     let Some(period) = period else {
         return empty_value(alloc, OwnColumn::Period(column).kind());

@@ -4,7 +4,7 @@ ghost use Rattle.lq_columns.specs.Plain.{HasNumbers, HasTexts};
 ghost use Rattle.lq_live.specs.State.{State};
 ghost use Rattle.lq_schema.specs.Kinds.{own_kind, program_kind, schema_kind};
 ghost use Rattle.lq_schema.specs.Names.{full_name};
-ghost use Rattle.lq_schema.specs.Value.{Number, Words, shown};
+ghost use Rattle.lq_schema.specs.Value.{Number, Words, meaning_of};
 ghost use Rattle.lq_tables.specs.Light.{IsLight};
 ghost use Rattle.lq_tables.specs.Parts.{program_cell, program_part, schema_cell, type_name};
 ghost use Rattle.lq_schema.specs.declared.columns.OwnColumn.TheVariants as own;
@@ -60,7 +60,7 @@ pub(crate) fn program_value(
     row: &Row,
     column: ProgramColumn,
 ) -> Val<'static>
-    ensures { shown result ≡ program_part live.now.state row.now column }
+    ensures { meaning_of result ≡ program_part live.now.state row.now column }
 {
     let Row::Status = row else {
         return empty_value(alloc, OwnColumn::Program(column).kind());
@@ -98,7 +98,7 @@ pub(crate) fn schema_value(
     entry: Option<Entry>,
     column: SchemaColumn,
 ) -> Result<Val<'static>, Memory>
-    ensures value { IfOk result (λ v. shown v ≡ schema_cell entry column) }
+    ensures value { IfOk result (λ v. meaning_of v ≡ schema_cell entry column) }
     ensures plain { IsLight (own.Schema column) → IsOk result }
 {
     let Some(entry) = entry else {
@@ -113,7 +113,7 @@ pub(crate) fn schema_value(
 
 /// The name of a column with what stands before it.
 fn whole_name(alloc: Global, column: Col) -> Result<Val<'static>, Memory>
-    ensures { IfOk result (λ v. shown v ≡ Words (full_name column)) }
+    ensures { IfOk result (λ v. meaning_of v ≡ Words (full_name column)) }
 {
     let name = column_name(column);
     let mut text = String::from_str(alloc, name.prefix)?;

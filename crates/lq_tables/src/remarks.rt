@@ -4,7 +4,7 @@ ghost use Rattle.std.specs.Prelude.{◌≡◌};
 ghost use Rattle.std.specs.Option.{IfSome, IsSome, option_copied};
 ghost use Rattle.lq_columns.specs.Plain.{HasNumbers, HasTexts};
 ghost use Rattle.lq_schema.specs.Kinds.{comment_kind, downtime_kind};
-ghost use Rattle.lq_schema.specs.Value.{Number, Words, empty_value, shown};
+ghost use Rattle.lq_schema.specs.Value.{Number, Words, empty_value, meaning_of};
 ghost use Rattle.lq_tables.specs.Parts.{comment_cell, downtime_cell};
 
 use crate::value::service_flag;
@@ -58,7 +58,7 @@ pub(crate) fn downtime_value(
     downtime: Option<&Downtime>,
     column: DowntimeColumn,
 ) -> Val<'_>
-    ensures { shown result ≡ downtime_cell (option_copied downtime.entry) column }
+    ensures { meaning_of result ≡ downtime_cell (option_copied downtime.entry) column }
 {
     let Some(downtime) = downtime else {
         return empty_value(alloc, OwnColumn::Downtime(column).kind());
@@ -119,7 +119,7 @@ pub(crate) fn comment_value(
     comment: Option<&Comment>,
     column: CommentColumn,
 ) -> Val<'_>
-    ensures { shown result ≡ comment_cell (option_copied comment.entry) column }
+    ensures { meaning_of result ≡ comment_cell (option_copied comment.entry) column }
 {
     let Some(comment) = comment else {
         return empty_value(alloc, OwnColumn::Comment(column).kind());

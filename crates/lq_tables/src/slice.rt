@@ -5,12 +5,14 @@ ghost use Rattle.std.specs.Option.{IfSome, IsSome, option_copied};
 ghost use Rattle.lq_columns.specs.Plain.{HasNumbers, HasTexts};
 ghost use Rattle.lq_live.specs.State.{State};
 ghost use Rattle.lq_schema.specs.Kinds.{slice_kind};
-ghost use Rattle.lq_schema.specs.Value.{Number, Words, shown};
-ghost use Rattle.lq_tables.specs.Slices.{description_of, duration_of, host_name_of, millionths, name_of_host, output_at, part_of, seconds_in, slice_cell};
+ghost use Rattle.lq_schema.specs.Value.{Number, Words, meaning_of};
+ghost use Rattle.lq_tables.specs.Slices.{description_of, duration_of, host_name_of, millionths};
+ghost use Rattle.lq_tables.specs.Slices.{name_of_host, output_at, part_of_interval, seconds_in};
+ghost use Rattle.lq_tables.specs.Slices.{slice_cell};
 ghost use Rattle.lq_columns.specs.Cells.{natural};
 
 use crate::history_row::HistoryRow;
-use lq_columns::{empty_number, empty_text, empty_value, flag, period_of};
+use lq_columns::{empty_number, empty_text, empty_value, flag, notification_period_of};
 use lq_events::LogEntry;
 use lq_live::Live;
 use lq_records::{Base, HostId, Object};
@@ -32,7 +34,7 @@ pub(crate) fn slice_number(row: Option<&HistoryRow>, column: SliceColumn) -> Opt
         SliceColumn::Time | SliceColumn::From => i128::from(slice.from),
         SliceColumn::Until => i128::from(slice.until),
         SliceColumn::Duration => i128::from(duration_of(slice)),
-        SliceColumn::DurationPart => part_of(row),
+        SliceColumn::DurationPart => part_of_interval(row),
         SliceColumn::DurationOk => seconds_in(slice, 0),
         SliceColumn::DurationWarning => seconds_in(slice, 1),
         SliceColumn::DurationCritical => seconds_in(slice, 2),
@@ -63,7 +65,7 @@ pub(crate) fn slice_text<'a>(
     };
     let slice = &row.slice;
     match column {
-        SliceColumn::NotificationPeriod => Some(period_of(live.base(), slice.object)),
+        SliceColumn::NotificationPeriod => Some(notification_period_of(live.base(), slice.object)),
         SliceColumn::HostName => Some(host_name_of(live.base(), slice.object)),
         SliceColumn::ServiceDescription => Some(description_of(live.base(), slice.object)),
         SliceColumn::LogOutput => Some(output_at(live.log().entries(), slice.line)),
@@ -77,7 +79,7 @@ pub(crate) fn slice_value<'a>(
     row: Option<&HistoryRow>,
     column: SliceColumn,
 ) -> Val<'a>
-    ensures { shown result ≡ slice_cell live.now.state (option_copied row.entry) column }
+    ensures { meaning_of result ≡ slice_cell live.now.state (option_copied row.entry) column }
 {
     let Some(row) = row else {
         return empty_value(alloc, OwnColumn::Slice(column).kind());
@@ -87,7 +89,7 @@ pub(crate) fn slice_value<'a>(
         SliceColumn::Time | SliceColumn::From => Val::Int(i128::from(slice.from)),
         SliceColumn::Until => Val::Int(i128::from(slice.until)),
         SliceColumn::Duration => Val::Int(i128::from(duration_of(slice))),
-        SliceColumn::DurationPart => Val::Int(part_of(row)),
+        SliceColumn::DurationPart => Val::Int(part_of_interval(row)),
         SliceColumn::DurationOk => Val::Int(seconds_in(slice, 0)),
         SliceColumn::DurationWarning => Val::Int(seconds_in(slice, 1)),
         SliceColumn::DurationCritical => Val::Int(seconds_in(slice, 2)),
@@ -99,7 +101,10 @@ pub(crate) fn slice_value<'a>(
         SliceColumn::InHostDowntime => Val::Int(flag(slice.in_host_downtime)),
         SliceColumn::IsFlapping => Val::Int(flag(slice.is_flapping)),
         SliceColumn::InNotificationPeriod => Val::Int(flag(slice.in_period)),
-        SliceColumn::NotificationPeriod => Val::Str(period_of(live.base(), slice.object)),
+        SliceColumn::NotificationPeriod => Val::Str(notification_period_of(
+            live.base(),
+            slice.object,
+        )),
         SliceColumn::HostName => Val::Str(host_name_of(live.base(), slice.object)),
         SliceColumn::ServiceDescription => Val::Str(description_of(live.base(), slice.object)),
         SliceColumn::LogOutput => Val::Str(output_at(live.log().entries(), slice.line)),
@@ -127,8 +132,8 @@ fn seconds_in(slice: &Slice, state: i64) -> i128
 }
 
 /// How much of the asked interval a slice takes, in millionths.
-fn part_of(row: &HistoryRow) -> i128
-    ensures { Number result ≡ natural (part_of row.now) }
+fn part_of_interval(row: &HistoryRow) -> i128
+    ensures { Number result ≡ natural (part_of_interval row.now) }
 {
     millionths(duration_of(&row.slice), row.until.saturating_sub(row.from))
 }

@@ -15,8 +15,8 @@ abbrev pub without_end : List ℕ → List ℕ
 without_end bytes = take (length bytes - suffix_len is_blank bytes) bytes
 
 -- the bytes without the blanks at both ends
-abbrev pub trimmed : List ℕ → List ℕ
-trimmed bytes = without_end (without_front bytes)
+abbrev pub without_blanks : List ℕ → List ℕ
+without_blanks bytes = without_end (without_front bytes)
 
 -- what stands between blanks
 abbrev pub words_of : List ℕ → List (List ℕ)

@@ -1,5 +1,6 @@
 -- A second in brackets at the front of a line: `[`, 1 to 12 digits, `]`.
-use Rattle.std.specs.Prelude.{ℕ, ◌+◌, ◌==◌, ◌&&◌, nat_lt, nat_le, Bool, Option, Some, None, List, length, take, drop, slice_index, if◌then◌else◌}
+use Rattle.std.specs.Prelude.{ℕ, ◌+◌, ◌==◌, ◌&&◌, nat_lt, nat_le, Bool, Option, Some, None, List}
+use Rattle.std.specs.Prelude.{length, take, drop, slice_index, if◌then◌else◌}
 use Rattle.std.specs.Char.{is_ascii_digit}
 use Rattle.std.specs.List.{prefix_len}
 use Rattle.lq_text.specs.Blanks.{without_front}

@@ -1,6 +1,6 @@
 ghost use Rattle.std.specs.Prelude.{◌≡◌, ◌≤◌, length};
 ghost use Rattle.std.specs.List.{prefix_len};
-ghost use Rattle.lq_text.specs.Blanks.{is_blank, trimmed, without_end, without_front};
+ghost use Rattle.lq_text.specs.Blanks.{is_blank, without_blanks, without_end, without_front};
 
 /// Whether a byte is a blank: a space or a tab.
 pub fn is_blank(byte: u8) -> bool
@@ -11,7 +11,7 @@ pub fn is_blank(byte: u8) -> bool
 
 /// The bytes without the blanks at both ends. Nothing is left where all are blanks.
 pub fn trim(bytes: &[u8]) -> &[u8]
-    ensures { result.now ≡ trimmed bytes.now }
+    ensures { result.now ≡ without_blanks bytes.now }
 {
     trim_end(trim_start(bytes))
 }

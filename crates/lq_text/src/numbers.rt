@@ -1,7 +1,9 @@
-ghost use Rattle.std.specs.Prelude.{◌≡◌, ◌≤◌, ◌^◌, ◌↔◌, min, neg_ℤ, pos, All, IsTrue, if◌then◌else◌};
+ghost use Rattle.std.specs.Prelude.{◌≡◌, ◌≤◌, ◌^◌, ◌↔◌, min, neg_ℤ, pos, All, IsTrue};
+ghost use Rattle.std.specs.Prelude.{if◌then◌else◌};
 ghost use Rattle.std.specs.Char.{IsAsciiDigit};
 ghost use Rattle.std.specs.Option.{SomeIff};
-ghost use Rattle.lq_text.specs.Numbers.{IsInRange, IsInteger, IsNumber, integer_of, integer_read, number_of};
+ghost use Rattle.lq_text.specs.Numbers.{IsInRange, IsInteger, IsNumber, integer_of, integer_read};
+ghost use Rattle.lq_text.specs.Numbers.{number_of};
 
 /// The number that decimal digits say. It may begin with zeros. None where there is no digit, where
 /// another byte stands among them, a sign or a blank too, and where the number is above `u64::MAX`.
@@ -37,14 +39,14 @@ fn read_integer(b: &[u8]) -> Option<i64>
     if digits.is_empty() || !are_digits(digits) {
         return None;
     }
-    signed(negative, capped_number(digits))
+    with_sign(negative, capped_number(digits))
 }
 
 /// One more than the largest `u64`: a number from here on fits neither a `u64` nor an `i64`.
 const CAP: u128 = 1 << 64;
 
 /// A number with its sign. None where it doesn't fit an `i64`.
-fn signed(negative: bool, number: u128) -> Option<i64>
+fn with_sign(negative: bool, number: u128) -> Option<i64>
     requires { number ≤ 2 ^ 64 }
     ensures { SomeIff result (IsInRange negative number)
         (if negative then neg_ℤ (pos number) else pos number) }

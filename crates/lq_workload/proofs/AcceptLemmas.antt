@@ -8,7 +8,7 @@ use Rattle.std.proofs.lemmas.Fmt.{decimal_injective}
 use Rattle.std.proofs.lemmas.List.Folds.{list_any-append}
 use Rattle.std.proofs.lemmas.Slice.Eq.{bytes_eq-Decides}
 use Rattle.lq_records.specs.declared.base.Rules.{Rules}
-use Rattle.lq_names.specs.Names.{Name, is_same, place_of, single}
+use Rattle.lq_names.specs.Names.{Name, is_equal_name, place_of, single}
 use Rattle.lq_objects.specs.Kinds.{limit}
 use Rattle.lq_objects.specs.Objects.{base_of}
 use Rattle.lq_workload.specs.Accepted.{IsAccepted}
@@ -191,14 +191,14 @@ decimals_differ a b small less other =
 same_bytes : (bytes : List ℕ) → bytes_eq bytes bytes ≡ true
 same_bytes bytes = (bytes_eq-Decides bytes bytes).1 refl
 
-same_name : (name : Name) → is_same name name ≡ true
+same_name : (name : Name) → is_equal_name name name ≡ true
 same_name name = and_from (bytes_eq name.first name.first) (bytes_eq name.second name.second) (same_bytes name.first) (same_bytes name.second)
 
-none_same : (name : Name) (count : ℕ) (names : ℕ → List Name) → ((place : ℕ) → place < count → list_any (is_same name) (names place) ≡ false)
-    → list_any (is_same name) (lists_below count names) ≡ false
+none_same : (name : Name) (count : ℕ) (names : ℕ → List Name) → ((place : ℕ) → place < count → list_any (is_equal_name name) (names place) ≡ false)
+    → list_any (is_equal_name name) (lists_below count names) ≡ false
 none_same name zero names each = refl
 none_same name (suc count) names each =
-    list_any-append (is_same name) (lists_below count names) (names count)
+    list_any-append (is_equal_name name) (lists_below count names) (names count)
     ∙ or_from _ _ (none_same name count names (λ place less. each place (omega arith))) (each count (omega arith))
 
 length-singles : (count : ℕ) (name : ℕ → Name) → length (lists_below count (λ place. name place ∷ [])) ≡ count
@@ -206,7 +206,7 @@ length-singles zero name = refl
 length-singles (suc count) name = length-append (lists_below count (λ place. name place ∷ [])) (name count ∷ []) ∙ omega (arith, length-singles count name)
 
 -- one name more
-fresh_more : (kind : Kind) (earlier names : List Name) (name : Name) → fresh kind earlier names ≡ true → list_any (is_same name) (earlier ++ names) ≡ false
+fresh_more : (kind : Kind) (earlier names : List Name) (name : Name) → fresh kind earlier names ≡ true → list_any (is_equal_name name) (earlier ++ names) ≡ false
     → length (earlier ++ names) < limit kind → fresh kind earlier (names ++ name ∷ []) ≡ true
 fresh_more kind earlier names name before other few =
     fresh-append kind earlier names (name ∷ [])
@@ -214,7 +214,7 @@ fresh_more kind earlier names name before other few =
     (and_from _ _ (and_from _ _ (not_from_false _ other) (not_from_false _ (lt-leb (limit kind) (length (earlier ++ names)) few))) refl)
 
 fresh_singles : (kind : Kind) (name : ℕ → Name) (most count : ℕ) → most ≤ limit kind → count ≤ most
-    → ((a b : ℕ) → b < a → a < most → is_same (name a) (name b) ≡ false) → fresh kind [] (lists_below count (λ place. name place ∷ [])) ≡ true
+    → ((a b : ℕ) → b < a → a < most → is_equal_name (name a) (name b) ≡ false) → fresh kind [] (lists_below count (λ place. name place ∷ [])) ≡ true
 fresh_singles kind name most zero within few other = refl
 fresh_singles kind name most (suc count) within few other =
     fresh_more kind [] (lists_below count (λ place. name place ∷ [])) (name count) (fresh_singles kind name most count within (omega arith) other)
@@ -227,7 +227,7 @@ length-rows : (count : ℕ) → length (rows count) ≡ count * 10
 length-rows zero = refl
 length-rows (suc count) = length-append (rows count) (row count 10) ∙ omega (arith, length-rows count, length-singles 10 (service_of count))
 
-other_host : (host service before : ℕ) → before < host → host < 100 → (count : ℕ) → list_any (is_same (service_of host service)) (row before count) ≡ false
+other_host : (host service before : ℕ) → before < host → host < 100 → (count : ℕ) → list_any (is_equal_name (service_of host service)) (row before count) ≡ false
 other_host host service before less few count =
     none_same (service_of host service) count (λ other. service_of before other ∷ [])
     (λ other within. or_from _ _ (and_left _ _ (decimals_differ host before (omega arith) (omega arith) (λ is. omega (arith, is)))) refl)
@@ -236,7 +236,7 @@ fresh_row : (host count : ℕ) → host < 100 → count ≤ 10 → fresh service
 fresh_row host zero less few = refl
 fresh_row host (suc count) less few =
     fresh_more service_kind (rows host) (row host count) (service_of host count) (fresh_row host count less (omega arith))
-    (list_any-append (is_same (service_of host count)) (rows host) (row host count)
+    (list_any-append (is_equal_name (service_of host count)) (rows host) (row host count)
     ∙ or_from _ _ (none_same (service_of host count) host (λ before. row before 10) (λ before earlier. other_host host count before earlier less 10))
     (none_same (service_of host count) count (λ other. service_of host other ∷ [])
     (λ other within. or_from _ _ (and_right _ _ (decimals_differ count other (omega arith) (omega arith) (λ is. omega (arith, is)))) refl)))
@@ -260,19 +260,19 @@ passes test (x ∷ xs) any =
       ]
     ]
 
-placed : (names : List Name) (name : Name) → list_any (is_same name) names ≡ true → is_none (place_of names name) ≡ false
+placed : (names : List Name) (name : Name) → list_any (is_equal_name name) names ≡ true → is_none (place_of names name) ≡ false
 placed names name any =
-    let first : ℕ = prefix_len (λ other. not (is_same name other)) names in
-    ap (λ found. is_none (cond found (Some first) None)) (lt-ltb first (length names) (passes (is_same name) names any))
+    let first : ℕ = prefix_len (λ other. not (is_equal_name name other)) names in
+    ap (λ found. is_none (cond found (Some first) None)) (lt-ltb first (length names) (passes (is_equal_name name) names any))
 
-any_below : (count place : ℕ) (name : ℕ → Name) → place < count → list_any (is_same (name place)) (lists_below count (λ other. name other ∷ [])) ≡ true
+any_below : (count place : ℕ) (name : ℕ → Name) → place < count → list_any (is_equal_name (name place)) (lists_below count (λ other. name other ∷ [])) ≡ true
 any_below zero place name less = absurd (omega arith)
 any_below (suc count) place name less =
-    list_any-append (is_same (name place)) (lists_below count (λ other. name other ∷ [])) (name count ∷ [])
+    list_any-append (is_equal_name (name place)) (lists_below count (λ other. name other ∷ [])) (name count ∷ [])
     ∙ elim (cases_lt place count) [
       | inl earlier ↦ or_left _ _ (any_below count place name earlier)
       | inr last ↦ let same : place ≡ count = omega arith in
-          or_right _ _ (or_left _ _ (ap (λ other. is_same (name place) (name other)) (sym same) ∙ same_name (name place)))
+          or_right _ _ (or_left _ _ (ap (λ other. is_equal_name (name place) (name other)) (sym same) ∙ same_name (name place)))
     ]
 
 -- ---- the whole
@@ -304,9 +304,9 @@ all_fresh kind (inr (inr (inr is))) = ap (λ k. fresh k [] (names_of k all_objec
 all_there : HasNames (λ kind. names_of kind all_objects)
 all_there = record {
   contacts = λ contact less. placed (names_of contact_kind all_objects) (contact_of contact)
-      (ap (list_any (is_same (contact_of contact))) contacts_named ∙ any_below 5 contact contact_of less);
+      (ap (list_any (is_equal_name (contact_of contact))) contacts_named ∙ any_below 5 contact contact_of less);
   hosts = λ host less. placed (names_of host_kind all_objects) (host_of host)
-      (ap (list_any (is_same (host_of host))) hosts_named ∙ any_below 100 host host_of less);
+      (ap (list_any (is_equal_name (host_of host))) hosts_named ∙ any_below 100 host host_of less);
 }
 
 pub objects_accepted : (number : ℕ) (rules : Rules) → IsOk (base_of (objects_text number) rules)

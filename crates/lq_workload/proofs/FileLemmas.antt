@@ -7,7 +7,7 @@ use Rattle.std.proofs.lemmas.Bool.{and_parts, not-true}
 use Rattle.std.proofs.lemmas.List.{map-append}
 use Rattle.std.proofs.lemmas.List.Elements.{filter-append}
 use Rattle.std.proofs.lemmas.Slice.Eq.{bytes_eq-Decides}
-use Rattle.lq_names.specs.Names.{Name, is_same, place_of, single}
+use Rattle.lq_names.specs.Names.{Name, is_equal_name, place_of, single}
 use Rattle.lq_records.specs.declared.base.Rules.{Rules}
 use Rattle.lq_objects.specs.Blocks.{Line, Part, opened_word, parts_of, telling_lines}
 use Rattle.lq_objects.specs.Faults.{block_fault, block_of, blocks_of, fault_if, fault_of, first_of, is_bad_name, known_block, lacks_name, name_fault, opened_fault, part_fault, parts_fault, unknown_in, unknown_in_block}
@@ -33,7 +33,7 @@ pub record HasNames (known : Kind → List Name) : Type 0 where
 abbrev pub fresh : Kind → List Name → List Name → Bool
 fresh kind earlier [] = true
 fresh kind earlier (name ∷ names) =
-    (not (list_any (is_same name) earlier) && not (nat_le (limit kind) (length earlier))) && fresh kind (earlier ++ name ∷ []) names
+    (not (list_any (is_equal_name name) earlier) && not (nat_le (limit kind) (length earlier))) && fresh kind (earlier ++ name ∷ []) names
 
 -- the names of a kind among objects
 abbrev pub names_of : Kind → List (Kind × Name) → List Name
@@ -56,7 +56,7 @@ and_assoc false b c = refl
 pub fresh-append : (kind : Kind) (earlier first second : List Name) → fresh kind earlier (first ++ second) ≡ (fresh kind earlier first && fresh kind (earlier ++ first) second)
 fresh-append kind earlier [] second = ap (λ names. fresh kind names second) (sym (append-nil earlier))
 fresh-append kind earlier (name ∷ first) second =
-    let here : Bool = not (list_any (is_same name) earlier) && not (nat_le (limit kind) (length earlier)) in
+    let here : Bool = not (list_any (is_equal_name name) earlier) && not (nat_le (limit kind) (length earlier)) in
     ap (λ rest. here && rest) (fresh-append kind (earlier ++ name ∷ []) first second)
     ∙ and_assoc here (fresh kind (earlier ++ name ∷ []) first) (fresh kind ((earlier ++ name ∷ []) ++ first) second)
     ∙ ap (λ names. (here && fresh kind (earlier ++ name ∷ []) first) && fresh kind names second) (append_assoc earlier (name ∷ []) first)
@@ -110,18 +110,18 @@ block_is : (kind : Kind) (inner : List (List ℕ)) (before : ℕ) → Opens kind
 block_is kind inner before opens = ap (λ found. known_block found (told (before + 1) inner)) (found_kind kind opens)
 
 may_be_named : (kind : Kind) (earlier : List Name) (name : Name) (number : ℕ) → lacks_name kind name ≡ false → is_bad_name kind name ≡ false
-    → list_any (is_same name) earlier ≡ false → nat_le (limit kind) (length earlier) ≡ false → name_fault kind earlier name number ≡ None
+    → list_any (is_equal_name name) earlier ≡ false → nat_le (limit kind) (length earlier) ≡ false → name_fault kind earlier name number ≡ None
 may_be_named kind earlier name number some good other few =
     ap (λ test. option_or (fault_if test number NoName) (option_or (fault_if (is_bad_name kind name) number BadName)
-    (option_or (fault_if (list_any (is_same name) earlier) number Twice) (fault_if (nat_le (limit kind) (length earlier)) number TooMany)))) some
+    (option_or (fault_if (list_any (is_equal_name name) earlier) number Twice) (fault_if (nat_le (limit kind) (length earlier)) number TooMany)))) some
     ∙ ap (λ test. option_or (fault_if test number BadName)
-    (option_or (fault_if (list_any (is_same name) earlier) number Twice) (fault_if (nat_le (limit kind) (length earlier)) number TooMany))) good
+    (option_or (fault_if (list_any (is_equal_name name) earlier) number Twice) (fault_if (nat_le (limit kind) (length earlier)) number TooMany))) good
     ∙ ap (λ test. option_or (fault_if test number Twice) (fault_if (nat_le (limit kind) (length earlier)) number TooMany)) other
     ∙ ap (λ test. fault_if test number TooMany) few
 
 part_fine : (kind : Kind) (inner : List (List ℕ)) (before : ℕ) (earlier : Kind → List Name) (name : Name) → Opens kind → Each (IsFine kind) inner
     → name_of kind (told (before + 1) inner) ≡ name → lacks_name kind name ≡ false → is_bad_name kind name ≡ false
-    → list_any (is_same name) (earlier kind) ≡ false → nat_le (limit kind) (length (earlier kind)) ≡ false
+    → list_any (is_equal_name name) (earlier kind) ≡ false → nat_le (limit kind) (length (earlier kind)) ≡ false
     → part_fault earlier (block_part before kind inner).lines (block_part before kind inner).closing ≡ None
 part_fine kind inner before earlier name opens fine named some good other few =
     let end : Line = record { number = before + 1 + length inner + 1; text = codes "}" } in
@@ -169,11 +169,11 @@ says_object text kind name is before =
       faultless = λ blocks later names.
           let earlier : List Name = block_names blocks kind in
           let new : fresh kind earlier (name ∷ []) ≡ true = ap (fresh kind earlier) (sym one) ∙ names kind is.used in
-          let both = and_parts (not (list_any (is_same name) earlier)) (not (nat_le (limit kind) (length earlier)))
-          (and_parts (not (list_any (is_same name) earlier) && not (nat_le (limit kind) (length earlier))) true new).0 in
+          let both = and_parts (not (list_any (is_equal_name name) earlier)) (not (nat_le (limit kind) (length earlier)))
+          (and_parts (not (list_any (is_equal_name name) earlier) && not (nat_le (limit kind) (length earlier))) true new).0 in
           ap (λ fault. option_or fault (parts_fault (blocks ++ block_of part.lines) later))
           (part_fine kind is.inner before (block_names blocks) name is.opens is.fine (is.named (before + 1)) is.some is.good
-          (not-true (list_any (is_same name) earlier) both.0) (not-true (nat_le (limit kind) (length earlier)) both.1))
+          (not-true (list_any (is_equal_name name) earlier) both.0) (not-true (nat_le (limit kind) (length earlier)) both.1))
           ∙ ap (λ found. parts_fault (blocks ++ found) later) (sym (append-nil (block_of part.lines)));
       known = λ known has. ap (λ blocks. first_of (unknown_in_block known) (blocks ++ [])) (block_is kind is.inner before is.opens)
           ∙ ap (λ fault. option_or fault None) (is.known (before + 1) known has);

@@ -8,7 +8,7 @@ use Rattle.std.proofs.lemmas.Bool.{and_from, and_parts, le-ltb}
 use Rattle.std.proofs.lemmas.Fmt.{length-decimal-le}
 use Rattle.lq_text.specs.Lines.{lines_of}
 use Rattle.lq_log.specs.Log.{first_fault, line_fault, log_of}
-use Rattle.lq_workload.specs.Checks.{after_check, after_checks, alert_line, next_check, state_name}
+use Rattle.lq_workload.specs.Checks.{after_check, after_checks, check_alert_line, next_check, state_name}
 use Rattle.lq_workload.specs.Draws.{after_draws, drawn}
 use Rattle.lq_workload.specs.Objects.{host_name, service_description}
 use Rattle.lq_workload.specs.Texts.{texts_below}
@@ -107,8 +107,8 @@ alert_short check place small few =
     let last = length-decimal-le 20 place (omega arith) (omega (arith, few)) few in
     omega (arith, length-concat (alert_pieces check place), second, host, service, name_short check.state, last)
 
-alert_first : (check : Check) (place : ℕ) (rest : List ℕ) → alert_line check place ++ rest ≡ concat (alert_pieces check place) ++ 10 ∷ rest
-unfolding alert_line
+alert_first : (check : Check) (place : ℕ) (rest : List ℕ) → check_alert_line check place ++ rest ≡ concat (alert_pieces check place) ++ 10 ∷ rest
+unfolding check_alert_line
 alert_first check place rest =
     concat_onto (alert_pieces check place ++ codes "\n" ∷ []) rest ∙ sym (concat_onto (alert_pieces check place) (10 ∷ rest))
 
@@ -119,12 +119,12 @@ no_fault number line few short = rw (le-ltb 200000 number few, le-ltb 8192 (leng
 
 -- the lines so far have no fault, whatever follows
 faultless : (first : Checks) (count : ℕ) (rest : List ℕ) → first.second ≤ 1000 → count ≤ 2000
-    → first_fault 1 (lines_of (texts_below count (λ place. alert_line (next_check (after_checks place first)) place) ++ rest))
+    → first_fault 1 (lines_of (texts_below count (λ place. check_alert_line (next_check (after_checks place first)) place) ++ rest))
     ≡ first_fault (1 + count) (lines_of rest)
 unfolding texts_below
 faultless first zero rest soon few = refl
 faultless first (suc count) rest soon few =
-    let text : ℕ → List ℕ = λ place. alert_line (next_check (after_checks place first)) place in
+    let text : ℕ → List ℕ = λ place. check_alert_line (next_check (after_checks place first)) place in
     let check : Check = next_check (after_checks count first) in
     let small : IsSmall check = next_small (after_checks count first) (omega (arith, few, soon, checks_soon count first)) in
     let line : List ℕ = concat (alert_pieces check count) in
@@ -142,7 +142,7 @@ whole bytes = ap (λ all. first_fault 1 (lines_of all)) (sym (append-nil bytes))
 no_faults : (number : ℕ) → first_fault 1 (lines_of (log_text number)) ≡ None
 unfolding log_text
 no_faults number =
-    whole (texts_below 2000 (λ place. alert_line (next_check (after_checks place (first_checks number))) place))
+    whole (texts_below 2000 (λ place. check_alert_line (next_check (after_checks place (first_checks number))) place))
     ∙ faultless (first_checks number) 2000 [] (omega arith) (omega arith)
 
 pub log_accepted : (number : ℕ) → IsOk (log_of (log_text number))

@@ -7,12 +7,12 @@ use Rattle.std.specs.Option.{option_map_or, option_or}
 use Rattle.std.proofs.lemmas.Bool.{and_right, ne_eqb, or_from}
 use Rattle.lq_text.specs.Blanks.{is_blank}
 use Rattle.lq_names.specs.Names.{Name, place_of, single}
-use Rattle.lq_records.specs.Clean.{cleaned}
+use Rattle.lq_records.specs.Clean.{text_of_bytes}
 use Rattle.lq_objects.specs.Blocks.{Line, is_named}
 use Rattle.lq_objects.specs.Faults.{fault_if, is_unknown, names_unknown}
 use Rattle.lq_objects.specs.Names.{elements, text_or}
 use Rattle.lq_objects.specs.declared.fault.ObjectsWhat.TheVariants.{UnknownName}
-use Rattle.lq_workload.specs.Objects.{contact_block, contact_name, directive, group_block, group_name, host_block, host_name, members, service_block, service_description}
+use Rattle.lq_workload.specs.Objects.{contact_block, contact_name, directive_line, group_block, group_name, host_block, host_name, members, service_block, service_description}
 use Rattle.lq_workload.specs.Texts.{texts_below}
 use Rattle.lq_workload.proofs.ByteLemmas.{is_inner, list_all-both}
 use Rattle.lq_workload.proofs.FileLemmas.{HasNames, IsObject}
@@ -30,8 +30,8 @@ name_word letter n is small = letter_before letter (decimal n) is (decimal_word 
 text_of : (name word : List ℕ) (number : ℕ) (later : List Line) → IsWord word → list_any (λ other. is_named name other.text) later ≡ false
     → text_or [] name (record { number = number; text = name ++ 32 ∷ word } ∷ later) ≡ word
 text_of name word number later is none =
-    ap (λ found. option_map_or cleaned found []) (directive_here name (record { number = number; text = name ++ 32 ∷ word }) later none (named_text name word))
-    ∙ ap cleaned (value_named name word is) ∙ cleaned_word word is
+    ap (λ found. option_map_or text_of_bytes found []) (directive_here name (record { number = number; text = name ++ 32 ∷ word }) later none (named_text name word))
+    ∙ ap text_of_bytes (value_named name word is) ∙ cleaned_word word is
 
 -- ---- names of others
 
@@ -88,7 +88,7 @@ contact_object contact less =
       used = inl refl;
       opens = opens_contact;
       inner = (codes "contact_name c" ++ decimal contact) ∷ [];
-      lines = λ rest. concat_onto (block_pieces (codes "contact") (directive (codes "contact_name") (contact_name contact))) rest;
+      lines = λ rest. concat_onto (block_pieces (codes "contact") (directive_line (codes "contact_name") (contact_name contact))) rest;
       read = (told_number 99 (codes "ontact_name c") contact small refl refl refl refl, tt);
       fine = ((λ before number. refl), tt);
       named = λ before. ap (λ first. record { first = first; second = [] })
@@ -116,8 +116,8 @@ host_object host contact less few =
       opens = opens_host;
       inner = (codes "host_name h" ++ decimal host) ∷ host_later host contact;
       lines = λ rest. concat_onto (block_pieces (codes "host")
-          (directive (codes "host_name") (host_name host) ++ directive (codes "alias") (codes "Host " ++ decimal host)
-          ++ directive (codes "address") (codes "10.0.0." ++ decimal host) ++ directive (codes "contacts") (contact_name contact))) rest;
+          (directive_line (codes "host_name") (host_name host) ++ directive_line (codes "alias") (codes "Host " ++ decimal host)
+          ++ directive_line (codes "address") (codes "10.0.0." ++ decimal host) ++ directive_line (codes "contacts") (contact_name contact))) rest;
       read = (
         told_number 104 (codes "ost_name h") host small refl refl refl refl,
         (
@@ -169,8 +169,8 @@ service_object host service attempts contact less one some three few =
       opens = opens_service;
       inner = service_inner host service attempts contact;
       lines = λ rest. concat_onto (block_pieces (codes "service")
-          (directive (codes "host_name") (host_name host) ++ directive (codes "service_description") (service_description service)
-          ++ directive (codes "max_check_attempts") (decimal attempts) ++ directive (codes "contacts") (contact_name contact))) rest;
+          (directive_line (codes "host_name") (host_name host) ++ directive_line (codes "service_description") (service_description service)
+          ++ directive_line (codes "max_check_attempts") (decimal attempts) ++ directive_line (codes "contacts") (contact_name contact))) rest;
       read = (
         told_number 104 (codes "ost_name h") host small refl refl refl refl,
         (
@@ -185,7 +185,7 @@ service_object host service attempts contact less one some three few =
       named = λ before. ap (λ first. record { first = first; second = text_or [] (codes "service_description") (told before (service_inner host service attempts contact)) })
           (text_of (codes "host_name") (host_name host) (before + 1) (told (before + 1) (service_later service attempts contact)) (name_word 104 host refl small) refl)
           ∙ ap (λ second. record { first = host_name host; second = second })
-          (ap (λ found. option_map_or cleaned found []) (directive_later (codes "service_description") (record { number = before + 1; text = codes "host_name h" ++ decimal host })
+          (ap (λ found. option_map_or text_of_bytes found []) (directive_later (codes "service_description") (record { number = before + 1; text = codes "host_name h" ++ decimal host })
           (told (before + 1) (service_later service attempts contact)) refl)
           ∙ text_of (codes "service_description") (service_description service) (before + 1 + 1) (told (before + 1 + 1) (service_last attempts contact)) (name_word 115 service refl short) refl);
       some = or_from _ _ (name_there 104 (decimal host)) (name_there 115 (decimal service));
@@ -289,7 +289,7 @@ group_object group less =
       opens = opens_group;
       inner = (codes "hostgroup_name g" ++ decimal group) ∷ (codes "members " ++ members group) ∷ [];
       lines = λ rest. concat_onto (block_pieces (codes "hostgroup")
-          (directive (codes "hostgroup_name") (group_name group) ++ directive (codes "members") (members group))) rest;
+          (directive_line (codes "hostgroup_name") (group_name group) ++ directive_line (codes "members") (members group))) rest;
       read = (
         told_number 104 (codes "ostgroup_name g") group small refl refl refl refl,
         (told_by 109 (codes "embers ") (members group) refl refl refl refl (members_solid group less) (omega arith), tt),

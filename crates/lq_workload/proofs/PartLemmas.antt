@@ -4,7 +4,7 @@ use Rattle.std.specs.Prelude.{◌==◌, not, nat_lt, filter, find, reverse, Opti
 use Rattle.std.specs.List.{enumerate_from, list_all, list_any}
 use Rattle.std.specs.Option.{option_map, option_or}
 use Rattle.std.proofs.lemmas.Bool.{and_from, and_parts, lt-ltb, not-true, not_from_false, or_parts}
-use Rattle.lq_text.specs.Blanks.{is_blank, trimmed}
+use Rattle.lq_text.specs.Blanks.{is_blank, without_blanks}
 use Rattle.lq_text.specs.Lines.{lines_of}
 use Rattle.lq_objects.specs.Blocks.{Line, Part, begin_part, directive, is_closing, is_named, is_telling, numbered_line, opened_word, parts_of, telling_after, value_of}
 use Rattle.lq_objects.specs.Faults.{first_of, inner_fault}
@@ -20,7 +20,7 @@ use Rattle.lq_workload.proofs.WordLemmas.{is_solid, solid_inner, trim_kept}
 -- the text of a line that is read as it stands, and closes no block
 pub record IsTold (text : List ℕ) : Type 0 where
   pub inner : list_all is_inner text ≡ true
-  pub trim : trimmed text ≡ text
+  pub trim : without_blanks text ≡ text
   pub telling : (number : ℕ) → is_telling (record { number = number; text = text }) ≡ true
   pub more : (number : ℕ) → is_closing (record { number = number; text = text }) ≡ false
 

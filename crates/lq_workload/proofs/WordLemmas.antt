@@ -12,8 +12,8 @@ use Rattle.std.proofs.lemmas.Fmt.{decimal_nonempty}
 use Rattle.std.proofs.lemmas.Grind.{common_steps}
 use Rattle.std.proofs.lemmas.List.Sums.{suffix_len_is}
 use Rattle.std.proofs.lemmas.Str.{IsUtf8-from_ascii, is_utf8-from_IsUtf8}
-use Rattle.lq_text.specs.Blanks.{is_blank, trimmed, without_end}
-use Rattle.lq_records.specs.Clean.{cleaned}
+use Rattle.lq_text.specs.Blanks.{is_blank, without_blanks, without_end}
+use Rattle.lq_records.specs.Clean.{text_of_bytes}
 use Rattle.lq_records.proofs.CleanLemmas.{cleaned-utf8}
 use Rattle.lq_objects.specs.Blocks.{is_named, value_of}
 use Rattle.lq_objects.specs.Names.{elements}
@@ -112,13 +112,13 @@ end_kept front back solid some =
     ap (λ n. take (length text - n) text) none ∙ grind (arith, common_steps)
 
 pub trim_kept : (first : ℕ) (front back : List ℕ) → is_blank first ≡ false → list_all is_solid back ≡ true → 0 < length back
-    → trimmed ((first ∷ front) ++ back) ≡ (first ∷ front) ++ back
+    → without_blanks ((first ∷ front) ++ back) ≡ (first ∷ front) ++ back
 trim_kept first front back solid ends some =
     let text : List ℕ = (first ∷ front) ++ back in
     let none : prefix_len is_blank text ≡ 0 = rw solid refl in
     ap (λ n. without_end (drop n text)) none ∙ end_kept (first ∷ front) back ends some
 
-pub trim_word : (word : List ℕ) → IsWord word → trimmed word ≡ word
+pub trim_word : (word : List ℕ) → IsWord word → without_blanks word ≡ word
 trim_word [] is = absurd (omega (arith, is.some))
 trim_word (first ∷ word) is =
     let solid = word_solid (first ∷ word) is.letters in
@@ -126,7 +126,7 @@ trim_word (first ∷ word) is =
     ap (λ n. without_end (drop n (first ∷ word))) none ∙ end_kept [] (first ∷ word) solid (omega arith)
 
 -- the value after a blank
-trim_value : (text : List ℕ) → list_all is_solid text ≡ true → 0 < length text → trimmed (32 ∷ text) ≡ text
+trim_value : (text : List ℕ) → list_all is_solid text ≡ true → 0 < length text → without_blanks (32 ∷ text) ≡ text
 trim_value [] solid some = absurd (omega (arith, some))
 trim_value (first ∷ text) solid some =
     let one : prefix_len is_blank (32 ∷ first ∷ text) ≡ 1 = rw (solid_blank first (and_parts (is_solid first) (list_all is_solid text) solid).0) refl in
@@ -141,7 +141,7 @@ solid_ascii (byte ∷ text) solid zero =
     omega (arith, most)
 solid_ascii (byte ∷ text) solid (suc place) = solid_ascii text (and_parts (is_solid byte) (list_all is_solid text) solid).1 place
 
-pub cleaned_word : (word : List ℕ) → IsWord word → cleaned word ≡ word
+pub cleaned_word : (word : List ℕ) → IsWord word → text_of_bytes word ≡ word
 cleaned_word word is = cleaned-utf8 word (is_utf8-from_IsUtf8 word (IsUtf8-from_ascii word (solid_ascii word (word_solid word is.letters))))
 
 pub no_separator : (word : List ℕ) → list_all is_letter word ≡ true → list_any (λ byte. byte == 59) word ≡ false
@@ -168,20 +168,20 @@ split_more (byte ∷ word) rest letters =
 abbrev is_piece : List ℕ → Bool
 is_piece piece = not (length piece == 0)
 
-piece_kept : (word : List ℕ) (pieces : List (List ℕ)) → IsWord word → filter is_piece (trimmed word ∷ pieces) ≡ word ∷ filter is_piece pieces
+piece_kept : (word : List ℕ) (pieces : List (List ℕ)) → IsWord word → filter is_piece (without_blanks word ∷ pieces) ≡ word ∷ filter is_piece pieces
 piece_kept word pieces is =
     let long : (length word == 0) ≡ false = ne_eqb (length word) 0 (λ none. omega (arith, none, is.some)) in
     ap (λ piece. filter is_piece (piece ∷ pieces)) (trim_word word is) ∙ rw long refl
 
 pub elements_word : (word : List ℕ) → IsWord word → elements word ≡ word ∷ []
 elements_word word is =
-    ap (λ parts. map cleaned (filter is_piece (map trimmed parts))) (split_word word is.letters) ∙ ap (map cleaned) (piece_kept word [] is)
+    ap (λ parts. map text_of_bytes (filter is_piece (map without_blanks parts))) (split_word word is.letters) ∙ ap (map text_of_bytes) (piece_kept word [] is)
     ∙ ap (λ text. text ∷ []) (cleaned_word word is)
 
 pub elements_more : (word rest : List ℕ) → IsWord word → elements (word ++ 44 ∷ rest) ≡ word ∷ elements rest
 elements_more word rest is =
-    ap (λ parts. map cleaned (filter is_piece (map trimmed parts))) (split_more word rest is.letters)
-    ∙ ap (map cleaned) (piece_kept word (map trimmed (slice_split is_comma rest)) is) ∙ ap (λ text. text ∷ elements rest) (cleaned_word word is)
+    ap (λ parts. map text_of_bytes (filter is_piece (map without_blanks parts))) (split_more word rest is.letters)
+    ∙ ap (map text_of_bytes) (piece_kept word (map without_blanks (slice_split is_comma rest)) is) ∙ ap (λ text. text ∷ elements rest) (cleaned_word word is)
 
 -- ---- a directive with its value
 
@@ -195,7 +195,7 @@ named_text name value =
     and_from _ _ starts (or_right (length text == length name) _ blank)
 
 pub value_solid : (name text : List ℕ) → list_all is_solid text ≡ true → 0 < length text → value_of name (name ++ 32 ∷ text) ≡ text
-value_solid name text solid some = ap trimmed (drop-append_seam name (32 ∷ text)) ∙ trim_value text solid some
+value_solid name text solid some = ap without_blanks (drop-append_seam name (32 ∷ text)) ∙ trim_value text solid some
 
 pub value_named : (name word : List ℕ) → IsWord word → value_of name (name ++ 32 ∷ word) ≡ word
 value_named name word is = value_solid name word (word_solid word is.letters) is.some

@@ -37,8 +37,8 @@ state_name state =
     else codes "UNKNOWN"
 
 -- the line of a log
-unfoldable pub alert_line : Check → ℕ → List ℕ
-alert_line check place =
+unfoldable pub check_alert_line : Check → ℕ → List ℕ
+check_alert_line check place =
     concat (codes "[" ∷ decimal check.second ∷ codes "] SERVICE ALERT: " ∷ host_name check.host
     ∷ codes ";" ∷ service_description check.service ∷ codes ";" ∷ state_name check.state
     ∷ codes ";HARD;1;n" ∷ decimal place ∷ codes "\n" ∷ [])

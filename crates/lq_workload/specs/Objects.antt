@@ -22,8 +22,8 @@ group_name group = codes "g" ++ decimal group
 -- ---- blocks
 
 -- the pieces of a directive's line
-abbrev pub directive : List ℕ → List ℕ → List (List ℕ)
-directive name value = name ∷ codes " " ∷ value ∷ codes "\n" ∷ []
+abbrev pub directive_line : List ℕ → List ℕ → List (List ℕ)
+directive_line name value = name ∷ codes " " ∷ value ∷ codes "\n" ∷ []
 
 -- a block with the pieces of its directives
 abbrev pub block : List ℕ → List (List ℕ) → List ℕ
@@ -32,25 +32,25 @@ block kind directives =
 
 unfoldable pub contact_block : ℕ → List ℕ
 contact_block contact =
-    block (codes "contact") (directive (codes "contact_name") (contact_name contact))
+    block (codes "contact") (directive_line (codes "contact_name") (contact_name contact))
 
 -- a host with its one contact
 unfoldable pub host_block : ℕ → ℕ → List ℕ
 host_block host contact =
     block (codes "host")
-    (directive (codes "host_name") (host_name host)
-    ++ directive (codes "alias") (codes "Host " ++ decimal host)
-    ++ directive (codes "address") (codes "10.0.0." ++ decimal host)
-    ++ directive (codes "contacts") (contact_name contact))
+    (directive_line (codes "host_name") (host_name host)
+    ++ directive_line (codes "alias") (codes "Host " ++ decimal host)
+    ++ directive_line (codes "address") (codes "10.0.0." ++ decimal host)
+    ++ directive_line (codes "contacts") (contact_name contact))
 
 -- a service of a host, with the most attempts of its checks and its one contact
 unfoldable pub service_block : ℕ → ℕ → ℕ → ℕ → List ℕ
 service_block host service attempts contact =
     block (codes "service")
-    (directive (codes "host_name") (host_name host)
-    ++ directive (codes "service_description") (service_description service)
-    ++ directive (codes "max_check_attempts") (decimal attempts)
-    ++ directive (codes "contacts") (contact_name contact))
+    (directive_line (codes "host_name") (host_name host)
+    ++ directive_line (codes "service_description") (service_description service)
+    ++ directive_line (codes "max_check_attempts") (decimal attempts)
+    ++ directive_line (codes "contacts") (contact_name contact))
 
 -- the hosts from 10 to 99 whose last digit is the group's number
 abbrev pub further_members : ℕ → List ℕ
@@ -63,8 +63,8 @@ members group = host_name group ++ further_members group
 unfoldable pub group_block : ℕ → List ℕ
 group_block group =
     block (codes "hostgroup")
-    (directive (codes "hostgroup_name") (group_name group)
-    ++ directive (codes "members") (members group))
+    (directive_line (codes "hostgroup_name") (group_name group)
+    ++ directive_line (codes "members") (members group))
 
 -- ---- the whole
 

@@ -2,7 +2,7 @@
 -- 2,100 times, to the log, and from the log to the stream.
 use Rattle.std.specs.Prelude.{ℕ, List, ◌++◌}
 use Rattle.lq_workload.specs.Draws.{after_draws}
-use Rattle.lq_workload.specs.Checks.{after_checks, alert_line, command_line, next_check}
+use Rattle.lq_workload.specs.Checks.{after_checks, check_alert_line, command_line, next_check}
 use Rattle.lq_workload.specs.Queries.{queries_text}
 use Rattle.lq_workload.specs.Texts.{texts_below}
 use Rattle.lq_workload.specs.declared.check.Checks.{Checks}
@@ -12,7 +12,7 @@ use Rattle.lq_workload.specs.declared.check.Checks.{Checks}
 -- a line of the log for each of the next 2,000 results of checks
 abbrev pub alerts_text : Checks → List ℕ
 alerts_text first =
-    texts_below 2000 (λ place. alert_line (next_check (after_checks place first)) place)
+    texts_below 2000 (λ place. check_alert_line (next_check (after_checks place first)) place)
 
 -- a command for each of the next 50 results
 abbrev pub commands_text : Checks → List ℕ

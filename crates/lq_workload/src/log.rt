@@ -1,5 +1,5 @@
 ghost use Rattle.std.specs.Prelude.{◌≡◌, ◌++◌, ◌≤◌, IfOk, OnOk, string_bytes};
-ghost use Rattle.lq_workload.specs.Checks.{after_checks, alert_line};
+ghost use Rattle.lq_workload.specs.Checks.{after_checks, check_alert_line};
 ghost use Rattle.lq_workload.specs.Workload.{alerts_text};
 
 use crate::check::{Check, Checks};
@@ -35,10 +35,10 @@ fn push_alerts(text: &mut String, checks: &mut Checks) -> Result<(), AllocError>
     Ok(())
 }
 
-#[tactic(auto, unfolding(crate::specs::Checks::alert_line))]
+#[tactic(auto, unfolding(crate::specs::Checks::check_alert_line))]
 fn push_alert(text: &mut String, check: Check, place: u64) -> Result<(), AllocError>
     ensures { OnOk result
-        (string_bytes text.new ≡ string_bytes text.old ++ alert_line check place) }
+        (string_bytes text.new ≡ string_bytes text.old ++ check_alert_line check place) }
 {
     let Check {
         second,

@@ -1,6 +1,9 @@
 ghost use Rattle.std.specs.Prelude.{◌≡◌, ◌++◌, ◌<◌, IfOk, OnOk, codes, string_bytes};
 ghost use Rattle.lq_workload.specs.Draws.{after_draws};
-ghost use Rattle.lq_workload.specs.Objects.{contact_block, contacts_text, drawn_service, further_members, group_block, groups_text, host_block, host_name, host_services, hosts_text, members, objects_text, service_block, services_text};
+ghost use Rattle.lq_workload.specs.Objects.{contact_block, contacts_text, drawn_service};
+ghost use Rattle.lq_workload.specs.Objects.{further_members, group_block, groups_text, host_block};
+ghost use Rattle.lq_workload.specs.Objects.{host_name, host_services, hosts_text, members};
+ghost use Rattle.lq_workload.specs.Objects.{objects_text, service_block, services_text};
 
 use crate::generator::Generator;
 use std::alloc::{AllocError, Global};

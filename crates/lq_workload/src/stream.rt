@@ -1,7 +1,8 @@
 ghost use Rattle.std.specs.Prelude.{◌≡◌, ◌++◌, ◌≤◌, IfOk, OnOk, string_bytes};
 ghost use Rattle.lq_workload.specs.Draws.{after_draws};
 ghost use Rattle.lq_workload.specs.Checks.{after_checks, command_line};
-ghost use Rattle.lq_workload.specs.Queries.{four_queries, history_query, hosts_query, log_query, queries_text, services_query};
+ghost use Rattle.lq_workload.specs.Queries.{four_queries, history_query, hosts_query, log_query};
+ghost use Rattle.lq_workload.specs.Queries.{queries_text, services_query};
 ghost use Rattle.lq_workload.specs.Workload.{commands_text, messages_text};
 
 use crate::check::{Check, Checks};

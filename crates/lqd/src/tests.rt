@@ -948,7 +948,7 @@ fn a_connection_has_10_000_messages_at_most(rt: HostRuntime) -> Result<(), Fail>
 }
 
 /// The bytes with a number of copies of one byte between the other two parts.
-fn padded(
+fn with_padding(
     alloc: Global,
     front: &[u8],
     byte: u8,
@@ -965,13 +965,13 @@ fn padded(
 fn a_file_has_67_108_864_bytes_at_most(rt: HostRuntime) -> Result<(), Fail> {
     let alloc = rt.alloc();
     let front = b"define host {\n host_name a\n}\n#";
-    let most = padded(alloc, front, b'-', 67_108_864 - front.len(), b"")?;
+    let most = with_padding(alloc, front, b'-', 67_108_864 - front.len(), b"")?;
     let within = Outside {
         file: most.as_slice(),
         ..STEADY
     };
     assert_run(&rt, &["ask", "f"], &within, QUERY, (0, b"a;0\n", b""))?;
-    let more = padded(alloc, front, b'-', 67_108_865 - front.len(), b"")?;
+    let more = with_padding(alloc, front, b'-', 67_108_865 - front.len(), b"")?;
     let past = Outside {
         file: more.as_slice(),
         ..STEADY
@@ -1005,14 +1005,14 @@ fn assert_largest<R: Abort + AllocGlobal>(
     query.extend_from_slice(format)?;
     query.extend_from_slice(b"\nResponseHeader: fixed16\n\n")?;
     let front = b"define host {\n host_name ";
-    let most = padded(alloc, front, b'a', count, b"\n}")?;
+    let most = with_padding(alloc, front, b'a', count, b"\n}")?;
     let within = Outside {
         file: most.as_slice(),
         ..STEADY
     };
     let mut head = Vec::from_slice(alloc, b"200     8388608\n")?;
     head.extend_from_slice(before)?;
-    let reply = padded(alloc, &head, b'a', count, after)?;
+    let reply = with_padding(alloc, &head, b'a', count, after)?;
     assert_run(
         rt,
         &["ask", "f"],
@@ -1020,7 +1020,7 @@ fn assert_largest<R: Abort + AllocGlobal>(
         &query,
         (0, reply.as_slice(), b""),
     )?;
-    let more = padded(alloc, front, b'a', count.saturating_add(1), b"\n}")?;
+    let more = with_padding(alloc, front, b'a', count.saturating_add(1), b"\n}")?;
     let past = Outside {
         file: more.as_slice(),
         ..STEADY
@@ -1041,7 +1041,7 @@ fn a_reply_has_8_388_608_bytes_at_most(rt: HostRuntime) -> Result<(), Fail> {
 fn a_message_has_65_536_bytes_at_most(rt: HostRuntime) -> Result<(), Fail> {
     let alloc = rt.alloc();
     let front = b"GET hosts\nColumns: name";
-    let most = padded(alloc, front, b' ', 65_536 - front.len() - 2, b"\n\n")?;
+    let most = with_padding(alloc, front, b' ', 65_536 - front.len() - 2, b"\n\n")?;
     assert_run(
         &rt,
         &["ask", "f"],
@@ -1050,7 +1050,7 @@ fn a_message_has_65_536_bytes_at_most(rt: HostRuntime) -> Result<(), Fail> {
         (0, b"web1\nweb2\n", b""),
     )?;
     let back = b"\n\nGET hosts\nColumns: name\n\n";
-    let more = padded(alloc, front, b' ', 65_536 - front.len() - 1, back)?;
+    let more = with_padding(alloc, front, b' ', 65_536 - front.len() - 1, back)?;
     assert_run(&rt, &["ask", "f"], &STEADY, &more, (0, b"", b""))?;
     assert_told(&rt)
 }
@@ -1059,10 +1059,10 @@ fn a_message_has_65_536_bytes_at_most(rt: HostRuntime) -> Result<(), Fail> {
 fn assert_told<R: Abort + AllocGlobal>(rt: &R) -> Result<(), Fail> {
     let alloc = rt.alloc();
     let front = b"GET hosts\nResponseHeader: fixed16\nColumns: name\nFilter: name = ";
-    let most = padded(alloc, front, b'a', 65_471, b"\n\n")?;
+    let most = with_padding(alloc, front, b'a', 65_471, b"\n\n")?;
     let none = b"200           0\n";
     assert_run(rt, &["ask", "f"], &STEADY, &most, (0, none, b""))?;
-    let more = padded(alloc, front, b'a', 65_472, b"\n\n")?;
+    let more = with_padding(alloc, front, b'a', 65_472, b"\n\n")?;
     let refused = b"413          18\nrequest too large\n";
     assert_run(rt, &["ask", "f"], &STEADY, &more, (0, refused, b""))
 }
@@ -1216,7 +1216,7 @@ fn a_message_without_memory_is_refused_in_its_style(rt: HostRuntime) -> Result<(
         return Ok(());
     }
     let front = b"GET hosts\nResponseHeader: fixed16\nColumns: name";
-    let too_long = padded(alloc, front, b' ', 65_536, b"\n\n")?;
+    let too_long = with_padding(alloc, front, b' ', 65_536, b"\n\n")?;
     let cases: [(&[u8], &[u8]); 5] = [
         (
             b"GET hosts\nResponseHeader: fixed16\nKeepAlive: on\n\nGET hosts\n\n",
@@ -1305,7 +1305,7 @@ GET hosts\nColumns: name state last_check plugin_output\n\n";
 }
 
 /// The same lines over and over.
-fn repeated(alloc: Global, lines: &[u8], count: usize) -> Result<Vec<u8>, AllocError> {
+fn lines_repeated(alloc: Global, lines: &[u8], count: usize) -> Result<Vec<u8>, AllocError> {
     let mut bytes = Vec::with_capacity(alloc, lines.len().saturating_mul(count))?;
     for _ in 0..count {
         bytes.extend_from_slice(lines)?;
@@ -1332,7 +1332,7 @@ fn assert_log_refused<R: Abort + AllocGlobal>(
 
 #[test]
 fn a_log_at_fault_is_told(rt: HostRuntime) -> Result<(), Fail> {
-    let many = repeated(rt.alloc(), b"[1] x\n", 200_001)?;
+    let many = lines_repeated(rt.alloc(), b"[1] x\n", 200_001)?;
     let too_many = Outside {
         log: &many,
         ..STEADY
@@ -1348,7 +1348,7 @@ fn a_log_at_fault_is_told(rt: HostRuntime) -> Result<(), Fail> {
         ..too_many
     };
     assert_log_refused(&rt, &both, 2, b"objects: line 1: unclosed\n")?;
-    let long = padded(rt.alloc(), b"[1] a\n", b'x', 8193, b"\n")?;
+    let long = with_padding(rt.alloc(), b"[1] a\n", b'x', 8193, b"\n")?;
     let too_long = Outside {
         log: &long,
         ..STEADY
@@ -1358,13 +1358,13 @@ fn a_log_at_fault_is_told(rt: HostRuntime) -> Result<(), Fail> {
 
 #[test]
 fn a_log_has_67_108_864_bytes_at_most(rt: HostRuntime) -> Result<(), Fail> {
-    let most = padded(rt.alloc(), b"", b'x', 67_108_864, b"")?;
+    let most = with_padding(rt.alloc(), b"", b'x', 67_108_864, b"")?;
     let within = Outside {
         log: &most,
         ..STEADY
     };
     assert_log_refused(&rt, &within, 3, b"log: line 1: line too long\n")?;
-    let more = padded(rt.alloc(), b"", b'x', 67_108_865, b"")?;
+    let more = with_padding(rt.alloc(), b"", b'x', 67_108_865, b"")?;
     let past = Outside {
         log: &more,
         ..STEADY

@@ -2,7 +2,7 @@ use Rattle.std.proofs.Common.{◌≡◌, ◌∷◌, [], ◌-◌, ◌<◌, None, 
 use Rattle.std.proofs.lemmas.List.{get_or_default}
 use Rattle.std.proofs.lemmas.Result.{IfOk-weaker}
 use Rattle.lq_filter.specs.Linked.{IsTree, truths_before}
-use Rattle.lq_filter.specs.Trees.{HasColumn, is_negation, join_of, joined, truth_on}
+use Rattle.lq_filter.specs.Trees.{HasColumn, is_negation, join_of, some_or_all, truth_on}
 use Rattle.lq_filter.proofs.StepLemmas.{column_at, joined_last, negated_some, not_same, test_is, truth_of_test}
 use Rattle.lq_filter.proofs.ready.+truth.Goals as goal
 
@@ -12,7 +12,7 @@ joined_at-returns-clause-value g t c =
     let steps = c.args.steps.now in
     let place = c.args.place in
     let tree : IsTree steps place c.size.result = rw c.size.ensures (c.requires.linked.each place c.index-steps-place.result (omega arith) c.requires.within) in
-    let undecided : joined c.args.join.any (take (c.args.join.count - 1) (truths_before truth_of steps (place - c.size.result))) ≡ not c.args.join.any
+    let undecided : some_or_all c.args.join.any (take (c.args.join.count - 1) (truths_before truth_of steps (place - c.size.result))) ≡ not c.args.join.any
     = rw (← c.in_ok-joined_at.ensures.value) (not_same c.in_ok-joined_at.field-0 c.args.join.any c.if-branch-join.false) in
     IfOk-weaker c.truth_at.result (λ truth. take 1 (truths_before truth_of c.joined_at.new.steps place) ≡ truth ∷ []) _
     (λ truth first. joined_last (truths_before truth_of steps place) (truths_before truth_of steps (place - c.size.result)) c.args.join.count c.args.join.any truth

@@ -1,5 +1,5 @@
 use Rattle.std.proofs.Common.{not, arith, ◌+◌}
-use Rattle.lq_live.specs.Effects.{is_named}
+use Rattle.lq_live.specs.Effects.{has_id_and_kind}
 use Rattle.lq_live.proofs.Ahead.{added_first, filter_from}
 use Rattle.lq_live.proofs.Apply.{room_less}
 use Rattle.lq_live.proofs.edit.make_edit.Goals as goal
@@ -18,6 +18,6 @@ returns-in-AddDowntime-clause-index c = record {
 pub returns-in-RemoveDowntime-clause-index : goal.returns-in-RemoveDowntime-clause-index
 returns-in-RemoveDowntime-clause-index c = record {
   moment = rw c.remove-in-RemoveDowntime.ensures.kept
-      (filter_from c.args.live.now.next_moment (λ downtime. not (is_named c.in-RemoveDowntime.kind c.in-RemoveDowntime.id downtime.id downtime.object)) c.args.live.now.downtimes.items c.requires.index.moment);
+      (filter_from c.args.live.now.next_moment (λ downtime. not (has_id_and_kind c.in-RemoveDowntime.kind c.in-RemoveDowntime.id downtime.id downtime.object)) c.args.live.now.downtimes.items c.requires.index.moment);
   told = c.requires.index.told;
 }

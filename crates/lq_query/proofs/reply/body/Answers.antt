@@ -9,7 +9,7 @@ use Rattle.lq_schema.specs.Value.{Value}
 use Rattle.lq_schema.specs.declared.columns.Col.{Col}
 use Rattle.lq_query.specs.Answer.{first_lines, layout_of, line_of_names, reply_lines, shown_lines, with_names}
 use Rattle.lq_query.specs.Lines.{seen_cells}
-use Rattle.lq_query.specs.Rows.{chosen}
+use Rattle.lq_query.specs.Rows.{chosen_rows}
 use Rattle.lq_query.proofs.LineLemmas.{names_first}
 use Rattle.lq_query.proofs.reply.body.Goals as goal
 
@@ -17,7 +17,7 @@ pub returns-in_err-push_head-clause-large : goal.returns-in_err-push_head-clause
 returns-in_err-push_head-clause-large c = λ large.
     let request = c.args.request.now in
     let rows : List (Col → Value) = map (seen_cells c.args.sight.now) c.args.rows.now in
-    let lines = first_lines request.limit (shown_lines request (chosen request.filter rows)) in
+    let lines = first_lines request.limit (shown_lines request (chosen_rows request.filter rows)) in
     let layout : c.in_ok-writer.writer.layout ≡ layout_of request = ap (λ (w : Writing). w.layout) c.in_ok-writer.ensures.ok in
     let failed : c.push_head.result ≡ Err TooLarge = search (rules, large) in
     subst (λ (layout : Layout). body_limit < length (body_text layout (reply_lines request rows))) layout
@@ -29,7 +29,7 @@ returns-in_err-push_lines-clause-large c = λ large.
     let request = c.args.request.now in
     let rows : List (Col → Value) = map (seen_cells c.args.sight.now) c.args.rows.now in
     let head = with_names request.head (line_of_names request) [] in
-    let lines = first_lines request.limit (shown_lines request (chosen request.filter rows)) in
+    let lines = first_lines request.limit (shown_lines request (chosen_rows request.filter rows)) in
     let layout : c.push_head.new.writer.layout ≡ layout_of request = c.in_ok-push_head.ensures.lines.layout ∙ ap (λ (w : Writing). w.layout) c.in_ok-writer.ensures.ok in
     let failed : c.push_lines.result ≡ Err TooLarge = search (rules, large) in
     subst (λ (layout : Layout). body_limit < length (body_text layout (reply_lines request rows))) layout
@@ -44,7 +44,7 @@ returns-clause-body c =
     let request = c.args.request.now in
     let rows : List (Col → Value) = map (seen_cells c.args.sight.now) c.args.rows.now in
     let head = with_names request.head (line_of_names request) [] in
-    let lines = first_lines request.limit (shown_lines request (chosen request.filter rows)) in
+    let lines = first_lines request.limit (shown_lines request (chosen_rows request.filter rows)) in
     let layout : c.push_lines.new.writer.layout ≡ layout_of request
     = c.in_ok-push_lines.ensures.lines.layout ∙ c.in_ok-push_head.ensures.lines.layout ∙ ap (λ (w : Writing). w.layout) c.in_ok-writer.ensures.ok in
     IfOk-weaker c.finish.result _ _

@@ -7,10 +7,10 @@ returns-then-i-column_count c = own_at c.args.t c.subject-own.result c.args.i c.
 
 pub joined_at-requires : goal.joined_at-requires
 joined_at-requires c =
-    let whole = count_of c.args.t c.subject-own.result c.joined.result.now c.column_count-2.result c.subject-own.ensures c.joined.ensures.parts c.column_count-2.ensures.count in
+    let whole = count_of c.args.t c.subject-own.result c.joined_parts.result.now c.column_count-2.result c.subject-own.ensures c.joined_parts.ensures.parts c.column_count-2.ensures.count in
     omega (arith, whole, c.requires, c.if-i-column_count.false, c.column_count.ensures.count, c.column_count-2.ensures.count)
 
 pub returns : goal.returns
-returns c = joined_found c.args.t c.subject-own.result c.joined.result.now c.column_count-2.result c.args.i c.joined_at.result
-    c.subject-own.ensures c.joined.ensures.parts c.column_count-2.ensures.count
+returns c = joined_found c.args.t c.subject-own.result c.joined_parts.result.now c.column_count-2.result c.args.i c.joined_at.result
+    c.subject-own.ensures c.joined_parts.ensures.parts c.column_count-2.ensures.count
     (omega (arith, c.if-i-column_count.false, c.column_count.ensures.count, c.column_count-2.ensures.count)) c.joined_at.ensures

@@ -2,7 +2,7 @@ use Rattle.std.proofs.Common.{◌≡◌, ◌<◌, ◌+◌, ◌++◌, [], refl, s
 use Rattle.std.specs.Option.{option_map}
 use Rattle.lq_statehist.specs.Facts.{known_at}
 use Rattle.lq_statehist.specs.History.{history, slice_of}
-use Rattle.lq_statehist.specs.Pass.{before, known_of, note_of, piece_of, subject_of}
+use Rattle.lq_statehist.specs.Pass.{before, known_of, note_of, piece_of_stretch, subject_of_lines}
 use Rattle.lq_statehist.proofs.JoinLemmas.{no_pieces}
 use Rattle.lq_statehist.proofs.MergeLemmas.{from_line, nothing_left}
 use Rattle.lq_statehist.proofs.PassLemmas.{IsLeft, all_left, held_before, held_last, left_after, on_ok, rises_after}
@@ -11,15 +11,15 @@ use Rattle.lq_statehist.proofs.pass.history.Goals as goal
 pub loop-note-init : goal.loop-note-init
 loop-note-init c = record {
   rises = c.requires.order;
-  left = subst (λ known. IsLeft (subject_of c.args.about.now) (map note_of c.args.notes.now) c.args.span.until known c.args.span.from (map note_of c.args.notes.now)) (sym c.nothing.ensures)
-      (all_left (subject_of c.args.about.now) (map note_of c.args.notes.now) c.args.span.from c.args.span.until);
+  left = subst (λ known. IsLeft (subject_of_lines c.args.about.now) (map note_of c.args.notes.now) c.args.span.until known c.args.span.from (map note_of c.args.notes.now)) (sym c.nothing.ensures)
+      (all_left (subject_of_lines c.args.about.now) (map note_of c.args.notes.now) c.args.span.from c.args.span.until);
   slices = refl;
   most = λ few. few;
 }
 
 pub returns-in-Err-clause-many : goal.returns-in-Err-clause-many
 returns-in-Err-clause-many c = λ large.
-    let about = subject_of c.args.about.now in
+    let about = subject_of_lines c.args.about.now in
     let all = map note_of c.args.notes.now in
     subst (λ list. 1000000 < length list) c.loop-note.invariant.slices
     (c.advance.ensures.many (c.in-Err.is ∙ large) c.args.span.until (known_at about all) (omega (arith, c.min.ensures))
@@ -28,7 +28,7 @@ returns-in-Err-clause-many c = λ large.
 
 pub loop-note-preserved : goal.loop-note-preserved
 loop-note-preserved c =
-    let about = subject_of c.args.about.now in
+    let about = subject_of_lines c.args.about.now in
     let all = map note_of c.args.notes.now in
     let now = c.in-Ok.ensures in
     record {
@@ -45,12 +45,12 @@ loop-note-preserved c =
     }
 
 whole : (c : goal.After-finish)
-    → c.advance-2.new.slices.items ++ map (slice_of c.args.about.now.object) (before (option_map piece_of c.advance-2.new.pass.growing) [])
-    ≡ c.args.slices.now.items ++ history (subject_of c.args.about.now) (map note_of c.args.notes.now) c.args.span.from c.args.span.until
+    → c.advance-2.new.slices.items ++ map (slice_of c.args.about.now.object) (before (option_map piece_of_stretch c.advance-2.new.pass.growing) [])
+    ≡ c.args.slices.now.items ++ history (subject_of_lines c.args.about.now) (map note_of c.args.notes.now) c.args.span.from c.args.span.until
 whole c =
-    let about = subject_of c.args.about.now in
+    let about = subject_of_lines c.args.about.now in
     let all = map note_of c.args.notes.now in
-    ap (λ pieces. c.advance-2.new.slices.items ++ map (slice_of c.args.about.now.object) (before (option_map piece_of c.advance-2.new.pass.growing) pieces))
+    ap (λ pieces. c.advance-2.new.slices.items ++ map (slice_of c.args.about.now.object) (before (option_map piece_of_stretch c.advance-2.new.pass.growing) pieces))
     (sym (no_pieces (known_at about all) c.advance-2.new.pass.since c.args.span.until c.in-Ok-advance.ensures.since))
     ∙ c.in-Ok-advance.ensures.ok c.args.span.until (known_at about all) (omega arith)
     (held_last about all (drop c.loop-note.note-index all) c.args.span.until c.loop-note.pass.since (known_of c.loop-note.pass.known)
@@ -69,7 +69,7 @@ returns-in-Ok-advance-clause-most c =
 
 pub returns-in-Err-advance-clause-many : goal.returns-in-Err-advance-clause-many
 returns-in-Err-advance-clause-many c = λ large.
-    let about = subject_of c.args.about.now in
+    let about = subject_of_lines c.args.about.now in
     let all = map note_of c.args.notes.now in
     subst (λ list. 1000000 < length list) c.loop-note.invariant.slices
     (c.advance-2.ensures.many (c.in-Err-advance.is ∙ large) c.args.span.until (known_at about all) (omega arith)

@@ -1,7 +1,7 @@
 use Rattle.std.proofs.Common.{rules, ◌≡◌, ◌+◌, ◌++◌, Err, ap, ◌∙◌, map, drop, flat_map}
 use Rattle.lq_statehist.specs.History.{history}
 use Rattle.lq_statehist.specs.Notes.{notes_of}
-use Rattle.lq_statehist.specs.Pass.{subject_of}
+use Rattle.lq_statehist.specs.Pass.{subject_of_lines}
 use Rattle.lq_statehist.specs.declared.slice.HistErr.TheVariants.{TooMany}
 use Rattle.lq_statehist.proofs.WholeLemmas.{many_more, rest_hosted, this_hosted, told_all, told_next}
 use Rattle.lq_statehist.proofs.whole.histories.Goals as goal
@@ -27,9 +27,9 @@ loop-about-preserved c =
     let base = c.args.live.now.state.base in
     let log = c.args.live.now.state.log in
     record {
-      all = ap (λ slices. slices ++ flat_map (λ about. history about (notes_of base log) c.args.span.from c.args.span.until) (drop (c.loop-about.about-index + 1) (map subject_of c.args.subjects.now))) c.in-Ok.ensures.ok
+      all = ap (λ slices. slices ++ flat_map (λ about. history about (notes_of base log) c.args.span.from c.args.span.until) (drop (c.loop-about.about-index + 1) (map subject_of_lines c.args.subjects.now))) c.in-Ok.ensures.ok
           ∙ told_next base log c.args.span.from c.args.span.until c.args.subjects.now c.loop-about.about-index _ c.loop-about-test.true c.loop-about.slices.items _ c.loop-about.invariant.all;
-      hosted = rest_hosted base (map subject_of c.args.subjects.now) c.loop-about.about-index c.loop-about.invariant.hosted;
+      hosted = rest_hosted base (map subject_of_lines c.args.subjects.now) c.loop-about.about-index c.loop-about.invariant.hosted;
       few = c.in-Ok.ensures.most c.loop-about.invariant.few;
     }
 

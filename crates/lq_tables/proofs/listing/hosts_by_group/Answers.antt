@@ -1,14 +1,14 @@
 use Rattle.std.proofs.Common.{◌++◌, Some, map, ap, sym, ◌∙◌}
 use Rattle.std.specs.List.{flat_map}
 use Rattle.std.proofs.lemmas.Option.{slice_get-get_or}
-use Rattle.lq_tables.specs.Rows.{host_group_rows, numbered}
+use Rattle.lq_tables.specs.Rows.{host_group_rows, with_places}
 use Rattle.lq_tables.specs.declared.row.Row.TheVariants as row
 use Rattle.lq_tables.proofs.Numbered.{numbered_next}
 use Rattle.lq_tables.proofs.listing.hosts_by_group.Goals as goal
 
 pub loop-place-preserved : goal.loop-place-preserved
 loop-place-preserved c =
-    numbered_next host_group_rows c.loop-place.rows.items c.push_hosts.new.rows.items (flat_map host_group_rows (numbered c.args.groups.now)) c.args.groups.now c.loop-place.place c.index-groups-place.result
+    numbered_next host_group_rows c.loop-place.rows.items c.push_hosts.new.rows.items (flat_map host_group_rows (with_places c.args.groups.now)) c.args.groups.now c.loop-place.place c.index-groups-place.result
     (slice_get-get_or c.args.groups.now c.loop-place.place c.index-groups-place.result c.loop-place-test.true ∙ ap Some (sym c.index-groups-place.is))
     (c.in_ok-push_hosts.ensures
     ∙ ap (λ members. c.loop-place.rows.items ++ map (row.HostOf (record { 0 = c.loop-place.place })) members) c.as_slice.ensures)

@@ -1,8 +1,8 @@
 use Rattle.std.proofs.Common.{◌≡◌, ◌++◌, drop}
 use Rattle.std.specs.List.{enumerate_from, flat_map}
-use Rattle.lq_tables.specs.Rows.{numbered, service_group_rows}
+use Rattle.lq_tables.specs.Rows.{with_places, service_group_rows}
 use Rattle.lq_tables.proofs.listing.services_by_group.Given as goal
 
 abbrev pub invariant-loop-place : goal.invariant-loop-place
 invariant-loop-place l =
-    l.rows.items ++ flat_map service_group_rows (enumerate_from l.place (drop l.place l.groups)) ≡ flat_map service_group_rows (numbered l.groups)
+    l.rows.items ++ flat_map service_group_rows (enumerate_from l.place (drop l.place l.groups)) ≡ flat_map service_group_rows (with_places l.groups)

@@ -1,7 +1,7 @@
 use Rattle.std.proofs.Common.{subst, sym}
 use Rattle.std.proofs.lemmas.Result.{on_ok_weaker}
 use Rattle.lq_filter.specs.Marks.{AreKeptBefore}
-use Rattle.lq_filter.specs.ReadyHeaders.{test_of}
+use Rattle.lq_filter.specs.ReadyHeaders.{test_of_ready}
 use Rattle.lq_filter.specs.Tests.{is_met}
 use Rattle.lq_filter.specs.Trees.{truth_on}
 use Rattle.lq_filter.specs.declared.check.Check.{Check}
@@ -16,5 +16,5 @@ returns-clause-kept g c =
     let front = subst (λ (check : Check). AreKeptBefore (λ row. is_met check (cell row c.args.self.now.column)) rows c.args.marks.now first c.keep_numbers-done.result)
     (sym c.requires.asked) c.keep_numbers-done.ensures.kept in
     on_ok_weaker c.keep_rest_by_number.result
-    (kept_both (λ row. truth_on (cell row) (test_of c.args.self.now)) rows c.args.marks.now first c.keep_rest_by_number.new.marks c.keep_numbers-done.result front)
+    (kept_both (λ row. truth_on (cell row) (test_of_ready c.args.self.now)) rows c.args.marks.now first c.keep_rest_by_number.new.marks c.keep_numbers-done.result front)
     c.keep_rest_by_number.ensures.kept

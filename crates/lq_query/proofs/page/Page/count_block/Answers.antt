@@ -11,7 +11,7 @@ use Rattle.lq_stats.specs.declared.kind.StatKind.{StatKind}
 use Rattle.lq_stats.specs.declared.spec.StatsSpec.{StatsSpec}
 use Rattle.lq_query.specs.Lines.{seen_cells}
 use Rattle.lq_tables.specs.declared.row.Row.{Row}
-use Rattle.lq_query.specs.Counting.{Counts, counted_from, entry_of}
+use Rattle.lq_query.specs.Counting.{Counts, counted_from, entry_of_ready}
 use Rattle.lq_query.specs.Groups.{stat_cell, stat_kind}
 use Rattle.lq_query.specs.Rows.{row_cells}
 use Rattle.lq_query.proofs.CountLemmas.{are_columns, chosen_counted, counts_none, none_counted}
@@ -21,7 +21,7 @@ pub returns-then-not-has_mark-clause-counts : goal.returns-then-not-has_mark-cla
 returns-then-not-has_mark-clause-counts c =
     let row_of = seen_cells c.args.self.now.sight in
     let columns = c.args.self.now.columns.now in
-    let stats : List StatEntry = map entry_of c.args.tally.now.entries.items in
+    let stats : List StatEntry = map entry_of_ready c.args.tally.now.entries.items in
     let cells = map (λ (entry : StatEntry). map (λ (row : Row). stat_cell (row_of row) entry) c.args.rows.now) stats in
     let key : Row → Key = λ row. row_cells columns (row_of row) in
     subst (λ (rows : List StatsRow). Counts c.args.groups.now c.args.groups.now rows)
@@ -34,9 +34,9 @@ pub count_marked-requires-clause-taken : goal.count_marked-requires-clause-taken
 count_marked-requires-clause-taken c =
     let row_of = seen_cells c.args.self.now.sight in
     let count = length c.args.rows.now in
-    let stats : List StatEntry = map entry_of c.args.tally.now.entries.items in
+    let stats : List StatEntry = map entry_of_ready c.args.tally.now.entries.items in
     let cells = ap (map column_cells) c.deref-3.ensures.value ∙ c.in_ok-cells.ensures.cells
-    ∙ ap (λ entries. map (λ (entry : StatEntry). map (λ (each : Row). stat_cell (row_of each) entry) c.args.rows.now) (map entry_of entries)) c.deref_mut.ensures.value in
+    ∙ ap (λ entries. map (λ (entry : StatEntry). map (λ (each : Row). stat_cell (row_of each) entry) c.args.rows.now) (map entry_of_ready entries)) c.deref_mut.ensures.value in
     subst (λ (kinds : List StatKind). AllZip (IsColumnOf count) kinds (map column_cells c.deref-3.result.now)) (sym (ap (λ (spec : StatsSpec). spec.entries) c.requires.spec))
     (subst (λ (those : List (List StatCell)). AllZip (IsColumnOf count) (map stat_kind stats) those) (sym cells) (are_columns row_of c.args.rows.now stats c.requires.stats))
 
@@ -44,10 +44,10 @@ pub returns-clause-counts : goal.returns-clause-counts
 returns-clause-counts c =
     let row_of = seen_cells c.args.self.now.sight in
     let columns = c.args.self.now.columns.now in
-    let stats : List StatEntry = map entry_of c.args.tally.now.entries.items in
+    let stats : List StatEntry = map entry_of_ready c.args.tally.now.entries.items in
     let key : Row → Key = λ row. row_cells columns (row_of row) in
     let cells = ap (map column_cells) c.deref-3.ensures.value ∙ c.in_ok-cells.ensures.cells
-    ∙ ap (λ entries. map (λ (entry : StatEntry). map (λ (each : Row). stat_cell (row_of each) entry) c.args.rows.now) (map entry_of entries)) c.deref_mut.ensures.value in
+    ∙ ap (λ entries. map (λ (entry : StatEntry). map (λ (each : Row). stat_cell (row_of each) entry) c.args.rows.now) (map entry_of_ready entries)) c.deref_mut.ensures.value in
     on_ok_weaker c.count_marked.result
     (subst (λ (rows : List StatsRow). Counts c.args.groups.now c.count_marked.new.groups rows)
     (ap (λ (marks : List Bool). counted_from key 0 marks c.args.rows.now (map column_cells c.deref-3.result.now)) (c.deref-2.ensures.value ∙ c.in_ok-marks.ensures.marks)

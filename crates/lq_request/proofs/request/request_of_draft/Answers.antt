@@ -1,8 +1,8 @@
 use Rattle.std.proofs.Common.{ap, sym, ◌∙◌}
 use Rattle.lq_request.specs.Window.{interval_of}
 use Rattle.lq_request.proofs.WindowLemmas.{asked_lines, asked_times}
-use Rattle.lq_request.proofs.request.finished.Goals as goal
-use Rattle.lq_request.proofs.request.finished.Goals.{then-shows_all+in_ok-request-3, else-shows_all}
+use Rattle.lq_request.proofs.request.request_of_draft.Goals as goal
+use Rattle.lq_request.proofs.request.request_of_draft.Goals.{then-shows_all+in_ok-request-3, else-shows_all}
 
 pub returns-clause-times : goal.returns-clause-times
 returns-clause-times c =

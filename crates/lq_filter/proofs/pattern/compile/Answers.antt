@@ -3,7 +3,7 @@ use Rattle.regex.specs.Strings.{regex_config, regex_source}
 use Rattle.lq_filter.specs.Compiled.{IsCompiled}
 use Rattle.lq_filter.specs.Patterns.{options}
 use Rattle.lq_filter.proofs.PatternLemmas.{is_pattern_of, no_pattern_of}
-use Rattle.lq_filter.proofs.pattern.compiled.Goals as goal
+use Rattle.lq_filter.proofs.pattern.compile.Goals as goal
 
 pub returns-in_ok-new-in-Ok : goal.returns-in_ok-new-in-Ok
 returns-in_ok-new-in-Ok c =

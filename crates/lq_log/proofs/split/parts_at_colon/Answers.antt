@@ -1,5 +1,5 @@
 use Rattle.lq_log.proofs.SplitLemmas.{after_colon}
-use Rattle.lq_log.proofs.split.parted.Goals as goal
+use Rattle.lq_log.proofs.split.parts_at_colon.Goals as goal
 
 pub range_from-requires : goal.range_from-requires
 range_from-requires c = λ some.

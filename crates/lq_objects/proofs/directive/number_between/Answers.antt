@@ -1,6 +1,6 @@
 use Rattle.std.proofs.Common.{Some, sym, ap, ◌∙◌, arith}
 use Rattle.lq_objects.proofs.NumberLemmas.{number_in-number}
-use Rattle.lq_objects.proofs.directive.number_in.Goals as goal
+use Rattle.lq_objects.proofs.directive.number_between.Goals as goal
 
 pub returns-in-Some : goal.returns-in-Some
 returns-in-Some c =

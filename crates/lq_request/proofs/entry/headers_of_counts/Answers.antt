@@ -2,7 +2,7 @@ use Rattle.std.proofs.Common.{◌∷◌, ◌∙◌, ap, subst, sym, length, arit
 use Rattle.std.proofs.lemmas.List.Elements.{All-head, All-rest, All-same}
 use Rattle.lq_request.specs.Stats.{IsEntry}
 use Rattle.lq_request.proofs.EntryLemmas.{one_counted}
-use Rattle.lq_request.proofs.entry.counted.Goals as goal
+use Rattle.lq_request.proofs.entry.headers_of_counts.Goals as goal
 
 pub entries-preserved : goal.entries-preserved
 entries-preserved c =

@@ -1,12 +1,12 @@
 use Rattle.std.proofs.Common.{◌≡◌, ◌+◌, ◌++◌, option_map, length}
 use Rattle.std.specs.Prelude.{All}
 use Rattle.lq_filter.specs.Trees.{height}
-use Rattle.lq_request.specs.Stats.{IsEntry, counted}
-use Rattle.lq_request.proofs.entry.counted.Given as goal
+use Rattle.lq_request.specs.Stats.{IsEntry, headers_of_counts}
+use Rattle.lq_request.proofs.entry.headers_of_counts.Given as goal
 
 abbrev pub invariant-entries : goal.invariant-entries
 invariant-entries l = record {
-  found : option_map (λ later. l.headers ++ later) (counted l.rest.items) ≡ counted l.fn.entries.items;
+  found : option_map (λ later. l.headers ++ later) (headers_of_counts l.rest.items) ≡ headers_of_counts l.fn.entries.items;
   trees : height l.headers + length l.rest.items ≡ length l.fn.entries.items;
   left : All IsEntry l.rest.items;
 }

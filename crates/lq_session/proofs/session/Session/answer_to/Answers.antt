@@ -1,6 +1,6 @@
 use Rattle.std.proofs.Common.{ap, ◌∙◌}
 use Rattle.lq_query.specs.Answer.{answer_of}
-use Rattle.lq_session.proofs.session.Session.answered.Goals as goal
+use Rattle.lq_session.proofs.session.Session.answer_to.Goals as goal
 
 pub returns-clause-bytes : goal.returns-clause-bytes
 returns-clause-bytes c =
