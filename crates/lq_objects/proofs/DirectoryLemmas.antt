@@ -5,7 +5,7 @@ use Rattle.std.proofs.lemmas.Simd.{map-map}
 use Rattle.lq_names.specs.Names.{Name, both_parts}
 use Rattle.lq_records.specs.declared.base.Rules.{Rules}
 use Rattle.lq_objects.specs.Blocks.{Line}
-use Rattle.lq_objects.specs.Directories.{AreNamesOf, directory_of, known}
+use Rattle.lq_objects.specs.Directories.{AreNamesOf, directory_of, names_in}
 use Rattle.lq_objects.specs.Names.{Block, block_names, is_of, name_of}
 use Rattle.lq_objects.specs.Objects.{contact_group_of, contact_of, host_group_of, host_of, lines_of_kind, objects_of, service_group_of, service_of}
 use Rattle.lq_objects.proofs.ListLemmas.{map-agree}
@@ -13,7 +13,7 @@ use Rattle.lq_objects.specs.declared.directory.Directory.{Directory}
 use Rattle.lq_objects.specs.declared.kind.Kind.{Kind}
 use Rattle.lq_objects.specs.declared.kind.Kind.TheVariants.{Host, Service, HostGroup, ServiceGroup, Contact, ContactGroup, Period, Command}
 
-known_of : (blocks : List Block) (kind : Kind) → known (directory_of blocks) kind ≡ block_names blocks kind
+known_of : (blocks : List Block) (kind : Kind) → names_in (directory_of blocks) kind ≡ block_names blocks kind
 known_of blocks Host = refl
 known_of blocks Service = refl
 known_of blocks HostGroup = refl
@@ -24,8 +24,8 @@ known_of blocks Period = refl
 known_of blocks Command = refl
 
 -- the directory of blocks knows their names
-pub known-directory : (directory : Directory) (blocks : List Block) → directory ≡ directory_of blocks → known directory ≡ block_names blocks
-known-directory directory blocks is = ap known is ∙ (λ i kind. known_of blocks kind i)
+pub known-directory : (directory : Directory) (blocks : List Block) → directory ≡ directory_of blocks → names_in directory ≡ block_names blocks
+known-directory directory blocks is = ap names_in is ∙ (λ i kind. known_of blocks kind i)
 
 -- ---- the names by which objects are found
 

@@ -5,7 +5,7 @@ use Rattle.lq_records.specs.declared.base.Base.{Base}
 use Rattle.lq_records.specs.declared.base.Rules.{Rules}
 use Rattle.lq_objects.specs.Blocks.{Part}
 use Rattle.lq_objects.specs.Checks.{Tells}
-use Rattle.lq_objects.specs.Directories.{directory_of, known}
+use Rattle.lq_objects.specs.Directories.{directory_of, names_in}
 use Rattle.lq_objects.specs.Faults.{blocks_of, first_of, parts_fault, unknown_fault, unknown_in_block}
 use Rattle.lq_objects.specs.Names.{Block}
 use Rattle.lq_objects.specs.Objects.{base_of_blocks, base_of_parts, base_or, objects_of}
@@ -36,14 +36,14 @@ module _ (rules : Rules) (parts : List Part) where
 
   module _ (directory : Directory) (blocks : List Block) (fine : parts_fault [] parts ≡ None) (all : blocks ≡ blocks_of parts)
       (is : directory ≡ directory_of blocks) where
-    unknown_is : first_of (unknown_in_block (known directory)) blocks ≡ unknown_fault (blocks_of parts)
+    unknown_is : first_of (unknown_in_block (names_in directory)) blocks ≡ unknown_fault (blocks_of parts)
     unknown_is = ap (λ names. first_of (unknown_in_block names) blocks) (known-directory directory blocks is) ∙ ap unknown_fault all
 
-    pub reads_unknown : (fault : Fault) → Some fault ≡ first_of (unknown_in_block (known directory)) blocks → base_of_parts rules parts ≡ Err fault
+    pub reads_unknown : (fault : Fault) → Some fault ≡ first_of (unknown_in_block (names_in directory)) blocks → base_of_parts rules parts ≡ Err fault
     reads_unknown fault found = by_faults None (Some fault) fine (sym (found ∙ unknown_is))
 
-    pub reads_base : None ≡ first_of (unknown_in_block (known directory)) blocks
-        → base_of_parts rules parts ≡ Ok (objects_of (known directory) rules blocks)
+    pub reads_base : None ≡ first_of (unknown_in_block (names_in directory)) blocks
+        → base_of_parts rules parts ≡ Ok (objects_of (names_in directory) rules blocks)
     reads_base none =
         by_faults None None fine (sym (none ∙ unknown_is))
         ∙ ap (λ found. Ok (base_of_blocks rules found)) (sym all)

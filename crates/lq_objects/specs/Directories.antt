@@ -21,15 +21,15 @@ empty = record {
 }
 
 -- the names of a kind
-abbrev pub known : Directory → Kind → List Name
-known directory Host = directory.hosts
-known directory Service = directory.services
-known directory HostGroup = directory.host_groups
-known directory ServiceGroup = directory.service_groups
-known directory Contact = directory.contacts
-known directory ContactGroup = directory.contact_groups
-known directory Period = directory.periods
-known directory Command = directory.commands
+abbrev pub names_in : Directory → Kind → List Name
+names_in directory Host = directory.hosts
+names_in directory Service = directory.services
+names_in directory HostGroup = directory.host_groups
+names_in directory ServiceGroup = directory.service_groups
+names_in directory Contact = directory.contacts
+names_in directory ContactGroup = directory.contact_groups
+names_in directory Period = directory.periods
+names_in directory Command = directory.commands
 
 abbrev pub with_name : Directory → Kind → Name → Directory
 with_name directory Host name = record directory { hosts = directory.hosts ++ name ∷ [] }

@@ -1,7 +1,7 @@
 ghost use Rattle.std.specs.Prelude.{◌≡◌, ℕ, None, IfOk, OnOk, option_map};
 ghost use Rattle.std.specs.Option.{option_copied, option_to_list};
 ghost use Rattle.lq_objects.specs.Checks.{Checks, with_blocks};
-ghost use Rattle.lq_objects.specs.Directories.{known, with_name};
+ghost use Rattle.lq_objects.specs.Directories.{names_in, with_name};
 ghost use Rattle.lq_objects.specs.Faults.{block_of, directive_fault, first_of, has_separator};
 ghost use Rattle.lq_objects.specs.Faults.{inner_fault, is_bad_name, known_block, lacks_name};
 ghost use Rattle.lq_objects.specs.Faults.{name_fault, opened_fault, part_fault};
@@ -26,7 +26,7 @@ pub(crate) fn read_part<'p, 'a>(
     part: &Part<'p, 'a>,
 ) -> Result<Option<Block<'p, 'a>>, ObjectsErr>
     ensures fault { Checks result
-        (part_fault (known directory.old) part.now.lines.now (option_copied part.now.closing)) }
+        (part_fault (names_in directory.old) part.now.lines.now (option_copied part.now.closing)) }
     ensures block { IfOk result (λ block. option_to_list block ≡ block_of part.now.lines.now) }
     ensures directory { IfOk result
         (λ block. directory.new ≡ with_blocks directory.old (option_to_list block)) }
@@ -66,7 +66,7 @@ impl<'p, 'a> Opened<'p, 'a> {
         texts: &Texts,
         directory: &mut Directory,
     ) -> Result<Option<Block<'p, 'a>>, ObjectsErr>
-        ensures fault { Checks result (opened_fault (known directory.old) self.now.opening
+        ensures fault { Checks result (opened_fault (names_in directory.old) self.now.opening
             self.now.kind self.now.lines.now (option_copied self.now.closing)) }
         ensures block { IfOk result
             (λ block. option_to_list block ≡ known_block self.now.kind self.now.lines.now) }
@@ -99,7 +99,7 @@ fn add_name(
     closing: &Line<'_>,
 ) -> Result<(), ObjectsErr>
     ensures fault { Checks result
-        (name_fault kind (known directory.old kind) name closing.now.number) }
+        (name_fault kind (names_in directory.old kind) name closing.now.number) }
     ensures directory { OnOk result (directory.new ≡ with_name directory.old kind name) }
 {
     if let Some(what) = name_fault(kind, directory.of(kind), &name) {

@@ -1,5 +1,5 @@
 ghost use Rattle.std.specs.Prelude.{◌≡◌, None, OnOk};
-ghost use Rattle.lq_objects.specs.Directories.{empty, known, with_name};
+ghost use Rattle.lq_objects.specs.Directories.{empty, names_in, with_name};
 ghost use Rattle.lq_names.specs.Names.{place_of};
 
 use crate::kind::Kind;
@@ -38,7 +38,7 @@ impl Directory {
 
     /// The names of a kind.
     pub(crate) fn of(&self, kind: Kind) -> &NameIndex
-        ensures { result.now ≡ known self.now kind }
+        ensures { result.now ≡ names_in self.now kind }
     {
         match kind {
             Kind::Host => &self.hosts,
@@ -54,7 +54,7 @@ impl Directory {
 
     /// Adds a name that isn't there at the end of its kind.
     pub(crate) fn push(&mut self, kind: Kind, name: Name) -> Result<(), AllocError>
-        requires { place_of (known self.old kind) name ≡ None }
+        requires { place_of (names_in self.old kind) name ≡ None }
         ensures { OnOk result (self.new ≡ with_name self.old kind name) }
     {
         match kind {

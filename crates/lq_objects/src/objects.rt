@@ -1,6 +1,6 @@
 ghost use Rattle.std.specs.Prelude.{◌≡◌, ◌≤◌, List, [], IfOk, OnOk, map};
 ghost use Rattle.lq_names.specs.Names.{Name};
-ghost use Rattle.lq_objects.specs.Directories.{directory_of, known};
+ghost use Rattle.lq_objects.specs.Directories.{directory_of, names_in};
 ghost use Rattle.lq_objects.specs.Drafts.{base_of_draft, numbers_of, with_lists, with_texts};
 ghost use Rattle.lq_objects.specs.Names.{text_or};
 ghost use Rattle.lq_objects.specs.Objects.{command_of, contact_group_of, contact_of, fields_of};
@@ -32,7 +32,7 @@ pub(crate) fn objects_of(
     blocks: &[Block<'_, '_>],
 ) -> Result<Base, AllocError>
     requires { directory ≡ directory_of blocks.now }
-    ensures { IfOk result (λ base. base ≡ objects_of (known directory) rules blocks.now) }
+    ensures { IfOk result (λ base. base ≡ objects_of (names_in directory) rules blocks.now) }
 {
     let draft = draft_of(texts, &directory, rules, blocks)?;
     draft.finish(texts.alloc(), directory)
@@ -46,7 +46,7 @@ fn draft_of(
     blocks: &[Block<'_, '_>],
 ) -> Result<Draft, AllocError>
     ensures { IfOk result
-        (λ draft. base_of_draft draft ≡ objects_of (known directory.now) rules blocks.now) }
+        (λ draft. base_of_draft draft ≡ objects_of (names_in directory.now) rules blocks.now) }
 {
     let mut draft = Draft::new(texts.alloc(), rules);
     for block in blocks {
@@ -72,7 +72,7 @@ impl<'r, 'a> Reader<'r, 'a> {
     /// Adds the block's own object at the end of its kind.
     fn add_to(&self, draft: &mut Draft, kind: Kind) -> Result<(), AllocError>
         ensures { OnOk result (base_of_draft draft.new ≡ with_object
-            (known self.now.directory.now) (base_of_draft draft.old) kind self.now.lines.now) }
+            (names_in self.now.directory.now) (base_of_draft draft.old) kind self.now.lines.now) }
     {
         match kind {
             Kind::Host => draft.hosts.push(self.host()?)?,
@@ -89,7 +89,7 @@ impl<'r, 'a> Reader<'r, 'a> {
 
     fn host(&self) -> Result<Host, AllocError>
         ensures { IfOk result
-            (λ host. host ≡ host_of (known self.now.directory.now) self.now.lines.now) }
+            (λ host. host ≡ host_of (names_in self.now.directory.now) self.now.lines.now) }
     {
         let host_name = self.text(b"host_name")?;
         Ok(Host {
@@ -103,7 +103,7 @@ impl<'r, 'a> Reader<'r, 'a> {
 
     fn service(&self) -> Result<Service, AllocError>
         ensures { IfOk result (λ service. service
-            ≡ service_of (known self.now.directory.now) self.now.lines.now) }
+            ≡ service_of (names_in self.now.directory.now) self.now.lines.now) }
     {
         let service_description = self.text(b"service_description")?;
         Ok(Service {
@@ -117,7 +117,7 @@ impl<'r, 'a> Reader<'r, 'a> {
     /// What a host or a service has beside its name.
     fn fields(&self, own_name: &Text) -> Result<ObjectFields, AllocError>
         ensures { IfOk result (λ fields. fields
-            ≡ fields_of (known self.now.directory.now) own_name.now self.now.lines.now) }
+            ≡ fields_of (names_in self.now.directory.now) own_name.now self.now.lines.now) }
     {
         let mut fields = self.numbers();
         self.fill_texts(&mut fields, own_name)?;
@@ -165,7 +165,7 @@ impl<'r, 'a> Reader<'r, 'a> {
 
     fn fill_lists(&self, fields: &mut ObjectFields) -> Result<(), AllocError>
         ensures { OnOk result (fields.new
-            ≡ with_lists (known self.now.directory.now) self.now.lines.now fields.old) }
+            ≡ with_lists (names_in self.now.directory.now) self.now.lines.now fields.old) }
     {
         fields.contacts = self.ids(Reference::Contacts)?;
         fields.contact_groups = self.ids(Reference::ContactGroups)?;
@@ -175,7 +175,7 @@ impl<'r, 'a> Reader<'r, 'a> {
 
     fn host_group(&self) -> Result<HostGroup, AllocError>
         ensures { IfOk result (λ group. group
-            ≡ host_group_of (known self.now.directory.now) self.now.lines.now) }
+            ≡ host_group_of (names_in self.now.directory.now) self.now.lines.now) }
     {
         let hostgroup_name = self.text(b"hostgroup_name")?;
         Ok(HostGroup {
@@ -190,7 +190,7 @@ impl<'r, 'a> Reader<'r, 'a> {
 
     fn service_group(&self) -> Result<ServiceGroup, AllocError>
         ensures { IfOk result (λ group. group
-            ≡ service_group_of (known self.now.directory.now) self.now.lines.now) }
+            ≡ service_group_of (names_in self.now.directory.now) self.now.lines.now) }
     {
         let servicegroup_name = self.text(b"servicegroup_name")?;
         Ok(ServiceGroup {
@@ -219,7 +219,7 @@ impl<'r, 'a> Reader<'r, 'a> {
 
     fn contact_group(&self) -> Result<ContactGroup, AllocError>
         ensures { IfOk result (λ group. group
-            ≡ contact_group_of (known self.now.directory.now) self.now.lines.now) }
+            ≡ contact_group_of (names_in self.now.directory.now) self.now.lines.now) }
     {
         let contactgroup_name = self.text(b"contactgroup_name")?;
         Ok(ContactGroup {
@@ -265,7 +265,8 @@ impl<'r, 'a> Reader<'r, 'a> {
     /// The objects that a directive names.
     fn ids<T: Id>(&self, reference: Reference) -> Result<Items<T>, AllocError>
         ensures { IfOk result (λ ids. ids
-            ≡ map T.id_at (places (known self.now.directory.now) reference self.now.lines.now)) }
+            ≡ map T.id_at (places (names_in self.now.directory.now) reference
+            self.now.lines.now)) }
     {
         ids(self.texts, self.directory, reference, self.lines)
     }

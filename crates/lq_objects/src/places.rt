@@ -1,7 +1,7 @@
 ghost use Rattle.std.specs.Prelude.{◌≡◌, ◌++◌, ◌∷◌, [], if◌then◌else◌, nat_eq, IfOk, OnOk, map};
 ghost use Rattle.std.specs.List.{filter_map, list_any};
 ghost use Rattle.std.specs.Option.{option_to_list};
-ghost use Rattle.lq_objects.specs.Directories.{known};
+ghost use Rattle.lq_objects.specs.Directories.{names_in};
 ghost use Rattle.lq_names.specs.Names.{place_of};
 ghost use Rattle.lq_objects.specs.Objects.{distinct, host_place, places};
 
@@ -27,7 +27,7 @@ pub(crate) fn ids<T: Id>(
     lines: &[Line<'_>],
 ) -> Result<Items<T>, AllocError>
     ensures { IfOk result
-        (λ ids. ids ≡ map T.id_at (places (known directory.now) reference lines.now)) }
+        (λ ids. ids ≡ map T.id_at (places (names_in directory.now) reference lines.now)) }
 {
     let names = match directive(reference.directive(), lines) {
         Some(value) => named_in(texts, reference, value)?,
@@ -102,7 +102,7 @@ pub(crate) fn host_place(
     lines: &[Line<'_>],
 ) -> Result<HostId, AllocError>
     ensures { IfOk result (λ id. id ≡ record {
-      0 = host_place (places (known directory.now) Reference.ServiceHost lines.now);
+      0 = host_place (places (names_in directory.now) Reference.ServiceHost lines.now);
     }) }
 {
     let Some(value) = directive(b"host_name", lines) else {

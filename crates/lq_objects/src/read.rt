@@ -3,7 +3,7 @@ ghost use Rattle.std.specs.Option.{option_copied};
 ghost use Rattle.lq_records.specs.Sound.{IsSound};
 ghost use Rattle.lq_objects.specs.Blocks.{parts_of};
 ghost use Rattle.lq_objects.specs.Checks.{Checks};
-ghost use Rattle.lq_objects.specs.Directories.{directory_of, known};
+ghost use Rattle.lq_objects.specs.Directories.{directory_of, names_in};
 ghost use Rattle.lq_objects.specs.Faults.{block_of, blocks_of, part_fault, parts_fault};
 ghost use Rattle.lq_objects.specs.Names.{block_names};
 ghost use Rattle.lq_objects.specs.Objects.{base_of, base_of_parts, objects_of};
@@ -61,7 +61,7 @@ fn read_known(
     rules: Rules,
 ) -> Result<Base, ObjectsErr>
     requires { directory ≡ directory_of blocks.now }
-    ensures { Reads result (Ok (objects_of (known directory) rules blocks.now)) }
+    ensures { Reads result (Ok (objects_of (names_in directory) rules blocks.now)) }
 {
     match objects_of(texts, directory, rules, blocks) {
         Ok(base) => Ok(base),

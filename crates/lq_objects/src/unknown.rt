@@ -1,6 +1,6 @@
 ghost use Rattle.std.specs.Prelude.{◌≡◌, IfOk, is_none};
 ghost use Rattle.std.specs.List.{list_any};
-ghost use Rattle.lq_objects.specs.Directories.{known};
+ghost use Rattle.lq_objects.specs.Directories.{names_in};
 ghost use Rattle.lq_objects.specs.Faults.{decides, first_of, is_unknown, names_unknown, unknown_in};
 ghost use Rattle.lq_objects.specs.Faults.{unknown_in_block};
 ghost use Rattle.lq_objects.specs.Blocks.{is_named};
@@ -25,7 +25,7 @@ pub(crate) fn unknown_fault(
     blocks: &[Block<'_, '_>],
 ) -> Result<Option<Fault>, AllocError>
     ensures { IfOk result
-        (λ fault. fault ≡ first_of (unknown_in_block (known directory.now)) blocks.now) }
+        (λ fault. fault ≡ first_of (unknown_in_block (names_in directory.now)) blocks.now) }
 {
     let finder = Finder { texts, directory };
     for block in blocks {
@@ -47,7 +47,7 @@ impl<'d> Finder<'d> {
     /// The first line of a block that names what isn't there.
     fn unknown_in_block(&self, block: &Block<'_, '_>) -> Result<Option<Fault>, AllocError>
         ensures { IfOk result
-            (λ fault. fault ≡ unknown_in_block (known self.now.directory.now) block.now) }
+            (λ fault. fault ≡ unknown_in_block (names_in self.now.directory.now) block.now) }
     {
         self.unknown_in(block.kind(), block.lines())
     }
@@ -55,7 +55,7 @@ impl<'d> Finder<'d> {
     /// The same, by the block's kind and lines.
     fn unknown_in(&self, kind: Kind, lines: &[Line<'_>]) -> Result<Option<Fault>, AllocError>
         ensures { IfOk result
-            (λ fault. fault ≡ unknown_in (known self.now.directory.now) kind lines.now) }
+            (λ fault. fault ≡ unknown_in (names_in self.now.directory.now) kind lines.now) }
     {
         for i in 0..lines.len() {
             let line = &lines[i];
@@ -77,7 +77,7 @@ impl<'d> Finder<'d> {
         references: &[Reference],
     ) -> Result<bool, AllocError>
         ensures { IfOk result (λ unknown. unknown ≡ list_any
-            (names_unknown (known self.now.directory.now) line.now later.now) references.now) }
+            (names_unknown (names_in self.now.directory.now) line.now later.now) references.now) }
     {
         for reference in references {
             if self.names_unknown(line, later, *reference)? {
@@ -95,7 +95,7 @@ impl<'d> Finder<'d> {
         reference: Reference,
     ) -> Result<bool, AllocError>
         ensures { IfOk result (λ unknown. unknown
-            ≡ names_unknown (known self.now.directory.now) line.now later.now reference) }
+            ≡ names_unknown (names_in self.now.directory.now) line.now later.now reference) }
     {
         if decides(reference.directive(), line, later) {
             let value = value_of(reference.directive(), line.text());
@@ -108,7 +108,8 @@ impl<'d> Finder<'d> {
     /// Whether a value names what isn't there.
     fn is_unknown(&self, reference: Reference, value: &[u8]) -> Result<bool, AllocError>
         ensures { IfOk result
-            (λ unknown. unknown ≡ is_unknown (known self.now.directory.now) reference value.now) }
+            (λ unknown. unknown
+            ≡ is_unknown (names_in self.now.directory.now) reference value.now) }
     {
         let index = self.directory.of(reference.target());
         if let Reference::ServiceHost = reference {

@@ -9,7 +9,7 @@ use Rattle.std.proofs.lemmas.Fmt.{length-decimal-le}
 use Rattle.lq_text.specs.Lines.{lines_of}
 use Rattle.lq_log.specs.Log.{first_fault, line_fault, log_of}
 use Rattle.lq_workload.specs.Checks.{after_check, after_checks, check_alert_line, next_check, state_name}
-use Rattle.lq_workload.specs.Draws.{after_draws, drawn}
+use Rattle.lq_workload.specs.Draws.{after_draws, draw_below}
 use Rattle.lq_workload.specs.Objects.{host_name, service_description}
 use Rattle.lq_workload.specs.Texts.{texts_below}
 use Rattle.lq_workload.specs.Workload.{first_checks, log_text}
@@ -20,8 +20,8 @@ use Rattle.lq_workload.proofs.LineLemmas.{concat_onto, line_first}
 
 -- ---- numbers that are drawn are small
 
-pub drawn_less : (below number : ℕ) → 0 < below → drawn below number < below
-unfolding drawn
+pub drawn_less : (below number : ℕ) → 0 < below → draw_below below number < below
+unfolding draw_below
 drawn_less below number some = omega arith
 
 -- a result of a check whose numbers have few digits

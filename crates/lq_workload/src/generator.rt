@@ -1,5 +1,5 @@
 ghost use Rattle.std.specs.Prelude.{◌≡◌, ◌<◌};
-ghost use Rattle.lq_workload.specs.Draws.{after_draw, drawn};
+ghost use Rattle.lq_workload.specs.Draws.{after_draw, draw_below};
 
 /// A generator of numbers that look random. Each draw follows from the number that the one before
 /// it left.
@@ -10,11 +10,11 @@ pub(crate) struct Generator {
 
 impl Generator {
     /// Draws a number below another one.
-    #[tactic(auto, unfolding(crate::specs::Draws::after_draw, crate::specs::Draws::drawn))]
+    #[tactic(auto, unfolding(crate::specs::Draws::after_draw, crate::specs::Draws::draw_below))]
     pub(crate) fn draw(&mut self, below: u64) -> u64
         requires { 0 < below }
         ensures below { result < below }
-        ensures drawn { result ≡ drawn below self.old.number }
+        ensures drawn { result ≡ draw_below below self.old.number }
         ensures after { self.new.number ≡ after_draw self.old.number }
     {
         self.number = self

@@ -1,5 +1,5 @@
 use Rattle.std.proofs.Common.{sym, subst}
-use Rattle.lq_objects.specs.Directories.{AreNamesOf, known}
+use Rattle.lq_objects.specs.Directories.{AreNamesOf, names_in}
 use Rattle.lq_objects.specs.Objects.{objects_of}
 use Rattle.lq_objects.proofs.DirectoryLemmas.{names_of-blocks}
 use Rattle.lq_objects.proofs.objects.objects_of.Goals as goal
@@ -7,5 +7,5 @@ use Rattle.lq_objects.proofs.objects.objects_of.Goals as goal
 pub finish-requires : goal.finish-requires
 finish-requires c =
     subst (AreNamesOf c.args.directory) (sym c.in_ok-draft.ensures)
-    (subst (λ names. AreNamesOf names (objects_of (known c.args.directory) c.args.rules c.args.blocks.now)) (sym c.requires)
-    (names_of-blocks (known c.args.directory) c.args.rules c.args.blocks.now))
+    (subst (λ names. AreNamesOf names (objects_of (names_in c.args.directory) c.args.rules c.args.blocks.now)) (sym c.requires)
+    (names_of-blocks (names_in c.args.directory) c.args.rules c.args.blocks.now))
