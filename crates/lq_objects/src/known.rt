@@ -6,7 +6,7 @@ ghost use Rattle.lq_objects.specs.Needed.{known_directives};
 use crate::line::is_named;
 
 /// Whether a text with a first byte is a directive that says something of an object of some kind.
-/// The byte leaves few names, and none for most lines.
+/// The byte leaves eight of the 31 names at most.
 #[tactic(auto, unfolding(crate::specs::Needed::known_directives))]
 pub(crate) fn is_known(first: u8, text: &[u8]) -> bool
     ensures { result ≡ list_any (λ name. (first == slice_index name 0) && is_named name text.now)
