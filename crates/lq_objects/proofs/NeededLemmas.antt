@@ -11,7 +11,7 @@ use Rattle.lq_objects.specs.Blocks.{Line, directive, is_closing, is_named, opene
 use Rattle.lq_objects.specs.Kinds.{name_directive, reference_directive, references, second_directive}
 use Rattle.lq_names.specs.Names.{Name}
 use Rattle.lq_objects.specs.Names.{name_of, text_or}
-use Rattle.lq_objects.specs.Needed.{is_known, is_needed, known_directives}
+use Rattle.lq_objects.specs.Needed.{directives, is_known, is_needed}
 use Rattle.lq_objects.specs.Faults.{directive_fault, fault_if, first_of, has_numbers, inner_fault, is_unknown, names_unknown, number_between, unknown_in}
 use Rattle.lq_objects.specs.Objects.{command_of, contact_group_of, contact_of, custom_variables, fields_of, host_group_of, host_of, host_place, ids, is_variable, merged_variables, number_or, period_of, places, places_in, service_group_of, service_of, variable_of}
 use Rattle.lq_objects.specs.declared.kind.Kind.{Kind}
@@ -72,7 +72,7 @@ variables-needed lines =
 -- ---- names and references
 
 name_known : (kind : Kind) → IsKnownName (name_directive kind)
-unfolding known_directives
+unfolding directives
 name_known Host = refl
 name_known Service = refl
 name_known HostGroup = refl
@@ -85,7 +85,7 @@ name_known Command = refl
 second-needed : (kind : Kind) (lines : List Line)
     → option_map_or (λ name. text_or [] name (needed lines)) (second_directive kind) []
     ≡ option_map_or (λ name. text_or [] name lines) (second_directive kind) []
-unfolding known_directives
+unfolding directives
 second-needed Host lines = refl
 second-needed Service lines = text-needed [] (codes "service_description") refl lines
 second-needed HostGroup lines = refl
@@ -100,7 +100,7 @@ name-needed kind lines =
     λ i. record { first = text-needed [] (name_directive kind) (name_known kind) lines i; second = second-needed kind lines i }
 
 reference_known : (reference : Reference) → IsKnownName (reference_directive reference)
-unfolding known_directives
+unfolding directives
 reference_known reference.Parents = refl
 reference_known reference.ServiceHost = refl
 reference_known reference.Contacts = refl
@@ -122,7 +122,7 @@ ids-needed id_at known reference lines = ap (map id_at) (places-needed known ref
 -- ---- objects
 
 fields-needed : (known : Kind → List Name) (own : List ℕ) (lines : List Line) → fields_of known own (needed lines) ≡ fields_of known own lines
-unfolding known_directives
+unfolding directives
 fields-needed known own lines =
     λ i. record {
       display_name = text-needed own (codes "display_name") refl lines i;
@@ -147,7 +147,7 @@ own_fields-needed known own is lines =
     fields-needed known _ lines ∙ ap (λ name. fields_of known name lines) (text-needed [] own is lines)
 
 pub host-needed : (known : Kind → List Name) (lines : List Line) → host_of known (needed lines) ≡ host_of known lines
-unfolding known_directives
+unfolding directives
 host-needed known lines =
     λ i. record {
       host_name = text-needed [] (codes "host_name") refl lines i;
@@ -158,7 +158,7 @@ host-needed known lines =
     }
 
 pub service-needed : (known : Kind → List Name) (lines : List Line) → service_of known (needed lines) ≡ service_of known lines
-unfolding known_directives
+unfolding directives
 service-needed known lines =
     λ i. record {
       host = record { 0 = host_place (places-needed known reference.ServiceHost lines i) };
@@ -168,7 +168,7 @@ service-needed known lines =
     }
 
 pub host_group-needed : (known : Kind → List Name) (lines : List Line) → host_group_of known (needed lines) ≡ host_group_of known lines
-unfolding known_directives
+unfolding directives
 host_group-needed known lines =
     λ i. record {
       hostgroup_name = text-needed [] (codes "hostgroup_name") refl lines i;
@@ -180,7 +180,7 @@ host_group-needed known lines =
     }
 
 pub service_group-needed : (known : Kind → List Name) (lines : List Line) → service_group_of known (needed lines) ≡ service_group_of known lines
-unfolding known_directives
+unfolding directives
 service_group-needed known lines =
     λ i. record {
       servicegroup_name = text-needed [] (codes "servicegroup_name") refl lines i;
@@ -192,7 +192,7 @@ service_group-needed known lines =
     }
 
 pub contact-needed : (lines : List Line) → contact_of (needed lines) ≡ contact_of lines
-unfolding known_directives
+unfolding directives
 contact-needed lines =
     λ i. record {
       contact_name = text-needed [] (codes "contact_name") refl lines i;
@@ -204,7 +204,7 @@ contact-needed lines =
     }
 
 pub contact_group-needed : (known : Kind → List Name) (lines : List Line) → contact_group_of known (needed lines) ≡ contact_group_of known lines
-unfolding known_directives
+unfolding directives
 contact_group-needed known lines =
     λ i. record {
       contactgroup_name = text-needed [] (codes "contactgroup_name") refl lines i;
@@ -213,7 +213,7 @@ contact_group-needed known lines =
     }
 
 pub period-needed : (lines : List Line) → period_of (needed lines) ≡ period_of lines
-unfolding known_directives
+unfolding directives
 period-needed lines =
     λ i. record {
       timeperiod_name = text-needed [] (codes "timeperiod_name") refl lines i;
@@ -221,7 +221,7 @@ period-needed lines =
     }
 
 pub command-needed : (lines : List Line) → command_of (needed lines) ≡ command_of lines
-unfolding known_directives
+unfolding directives
 command-needed lines =
     λ i. record {
       command_name = text-needed [] (codes "command_name") refl lines i;
@@ -231,7 +231,7 @@ command-needed lines =
 -- ---- faults of lines
 
 directive-none : (kind : Kind) (line : Line) → is_needed line ≡ false → directive_fault kind line ≡ None
-unfolding known_directives
+unfolding directives
 directive-none kind line unneeded =
     ap₂ option_or
     (ap (λ test. fault_if test line.number NotFlattened)

@@ -3,9 +3,11 @@ ghost use Rattle.std.specs.List.{starts_with};
 ghost use Rattle.std.specs.Option.{option_copied};
 ghost use Rattle.lq_objects.specs.Blocks.{directive, value_of};
 ghost use Rattle.lq_objects.specs.Faults.{is_bad, is_bad_number, is_template, number_between};
+ghost use Rattle.lq_objects.specs.Needed.{directive_word};
 ghost use Rattle.lq_objects.specs.Objects.{is_variable};
 
 use crate::kind::Kind;
+use crate::known::Directive;
 use crate::line::Line;
 use lq_text::{read_u64, trim};
 
@@ -19,15 +21,15 @@ pub(crate) fn value_of<'a>(name: &[u8], text: &'a [u8]) -> &'a [u8]
     trim(&text[name.len().min(text.len())..])
 }
 
-/// The value of the directive with a name. Of several the last decides.
-pub(crate) fn directive<'a>(name: &[u8], lines: &[Line<'a>]) -> Option<&'a [u8]>
-    ensures { option_copied result ≡ directive name.now lines.now }
+/// The value of a directive. Of several lines the last decides.
+pub(crate) fn directive<'a>(wanted: Directive, lines: &[Line<'a>]) -> Option<&'a [u8]>
+    ensures { option_copied result ≡ directive (directive_word wanted) lines.now }
 {
     lines
         .iter()
         .rev()
-        .find(|line| line.is_named(name))
-        .map(|line| value_of(name, line.text()))
+        .find(|line| line.is_directive(wanted))
+        .map(|line| value_of(wanted.word(), line.text()))
 }
 
 /// The number that a value says, where it is in a range.
@@ -45,10 +47,11 @@ pub(crate) fn number_between(least: u32, most: u32, value: &[u8]) -> Option<u32>
 
 /// Whether a line is a directive with a number that isn't in its range.
 #[inline(always)]
-fn is_bad(least: u32, most: u32, name: &[u8], line: &Line<'_>) -> bool
-    ensures { result ≡ is_bad least most name.now line.now.text }
+fn is_bad(least: u32, most: u32, number: Directive, line: &Line<'_>) -> bool
+    ensures { result ≡ is_bad least most (directive_word number) line.now.text }
 {
-    line.is_named(name) && number_between(least, most, value_of(name, line.text())).is_none()
+    line.is_directive(number)
+        && number_between(least, most, value_of(number.word(), line.text())).is_none()
 }
 
 /// Whether a line in a block of a kind has a number that isn't in its range.
@@ -56,15 +59,15 @@ pub(crate) fn is_bad_number(kind: Kind, line: &Line<'_>) -> bool
     ensures { result ≡ is_bad_number kind line.now.text }
 {
     kind.has_numbers()
-        && (is_bad(1, MOST_ATTEMPTS, b"max_check_attempts", line)
-            || is_bad(0, 1, b"notifications_enabled", line))
+        && (is_bad(1, MOST_ATTEMPTS, Directive::MaxCheckAttempts, line)
+            || is_bad(0, 1, Directive::NotificationsEnabled, line))
 }
 
 /// Whether a line stands in files that aren't flattened alone.
 pub(crate) fn is_template(line: &Line<'_>) -> bool
     ensures { result ≡ is_template line.now.text }
 {
-    line.is_named(b"use") || line.is_named(b"register")
+    line.is_directive(Directive::Use) || line.is_directive(Directive::Register)
 }
 
 /// Whether a line is a custom variable.

@@ -1,8 +1,11 @@
 ghost use Rattle.std.specs.Prelude.{◌≡◌};
-ghost use Rattle.std.specs.Option.{option_copied};
+ghost use Rattle.std.specs.Option.{option_map};
 ghost use Rattle.lq_objects.specs.Faults.{has_numbers};
 ghost use Rattle.lq_objects.specs.Kinds.{kind_named, limit, name_directive, reference_directive};
 ghost use Rattle.lq_objects.specs.Kinds.{references, second_directive, target};
+ghost use Rattle.lq_objects.specs.Needed.{directive_word};
+
+use crate::known::Directive;
 
 /// The most hosts, the most contacts, and the most commands. With one more the file is refused.
 const MOST_OBJECTS: usize = 10_000;
@@ -79,26 +82,26 @@ impl Kind {
     }
 
     /// The directive with an object's name.
-    pub(crate) fn name_directive(self) -> &'static [u8]
-        ensures { result.now ≡ name_directive self }
+    pub(crate) fn name_directive(self) -> Directive
+        ensures { directive_word result ≡ name_directive self }
     {
         match self {
-            Kind::Host | Kind::Service => b"host_name".as_slice(),
-            Kind::HostGroup => b"hostgroup_name".as_slice(),
-            Kind::ServiceGroup => b"servicegroup_name".as_slice(),
-            Kind::Contact => b"contact_name".as_slice(),
-            Kind::ContactGroup => b"contactgroup_name".as_slice(),
-            Kind::Period => b"timeperiod_name".as_slice(),
-            Kind::Command => b"command_name".as_slice(),
+            Kind::Host | Kind::Service => Directive::HostName,
+            Kind::HostGroup => Directive::HostGroupName,
+            Kind::ServiceGroup => Directive::ServiceGroupName,
+            Kind::Contact => Directive::ContactName,
+            Kind::ContactGroup => Directive::ContactGroupName,
+            Kind::Period => Directive::TimePeriodName,
+            Kind::Command => Directive::CommandName,
         }
     }
 
     /// The directive with the second part of an object's name, where it has one.
-    pub(crate) fn second_directive(self) -> Option<&'static [u8]>
-        ensures { option_copied result ≡ second_directive self }
+    pub(crate) fn second_directive(self) -> Option<Directive>
+        ensures { option_map directive_word result ≡ second_directive self }
     {
         match self {
-            Kind::Service => Some(b"service_description".as_slice()),
+            Kind::Service => Some(Directive::ServiceDescription),
             Kind::Host
             | Kind::HostGroup
             | Kind::ServiceGroup
@@ -164,17 +167,17 @@ pub(crate) enum Reference {
 }
 
 impl Reference {
-    /// The directive's name.
-    pub(crate) fn directive(self) -> &'static [u8]
-        ensures { result.now ≡ reference_directive self }
+    /// The directive.
+    pub(crate) fn directive(self) -> Directive
+        ensures { directive_word result ≡ reference_directive self }
     {
         match self {
-            Reference::Parents => b"parents".as_slice(),
-            Reference::ServiceHost => b"host_name".as_slice(),
-            Reference::Contacts => b"contacts".as_slice(),
-            Reference::ContactGroups => b"contact_groups".as_slice(),
+            Reference::Parents => Directive::Parents,
+            Reference::ServiceHost => Directive::HostName,
+            Reference::Contacts => Directive::Contacts,
+            Reference::ContactGroups => Directive::ContactGroups,
             Reference::MemberHosts | Reference::MemberServices | Reference::MemberContacts => {
-                b"members".as_slice()
+                Directive::Members
             }
         }
     }

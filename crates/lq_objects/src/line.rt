@@ -6,17 +6,21 @@ ghost use Rattle.lq_text.specs.Blanks.{is_blank};
 ghost use Rattle.lq_objects.specs.Blocks.{is_closing, is_named, is_opening_text, is_telling};
 ghost use Rattle.lq_objects.specs.Blocks.{one_word, opened_word, parts_of};
 ghost use Rattle.lq_objects.specs.Words.{word_length};
-ghost use Rattle.lq_objects.specs.Needed.{is_bound, is_known, is_needed};
+ghost use Rattle.lq_objects.specs.Needed.{directive_word, is_bound, is_known, is_needed};
 ghost use Rattle.lq_objects.specs.Objects.{base_of, base_of_parts, variable_name};
 ghost use Rattle.lq_records.specs.declared.base.Rules.{Rules};
 ghost use Rattle.lq_objects.specs.declared.fault.ObjectsErr.TheVariants.{At};
 
 use crate::directive::is_variable;
 use crate::fault::{ObjectsErr, ObjectsWhat};
-use crate::known::is_known;
+use crate::known::Directive;
 use lq_text::{is_blank, next_line, trim};
 use std::alloc::{AllocError, Global};
 use std::marker::Model;
+
+/// The most bytes of a file whose lines' numbers `u32` holds, far more than the program loads. A
+/// longer one is answered as memory that ran out.
+const MOST_BYTES: usize = 0xFFFF_FFFF;
 
 /// How many bytes of a file there are for each line that is needed, about.
 const BYTES_A_LINE: usize = 48;
@@ -25,29 +29,40 @@ const BYTES_A_LINE: usize = 48;
 /// both ends.
 #[derive(Drop)]
 pub(crate) struct Line<'a> {
-    number: u64,
+    /// In 32 bits, so that it shares eight bytes with the directive: a site has many lines.
+    number: u32,
+    /// Which known directive the text is. It is found once.
+    directive: Option<Directive>,
     text: &'a [u8],
 }
 
 impl<'a> Model for Line<'a> {
+    ghost use Rattle.std.specs.Prelude.{◌≡◌};
     ghost use Rattle.lq_objects.specs.Blocks.{Line};
+    ghost use Rattle.lq_objects.specs.Needed.{known_directive};
 
     ghost Value = { Line };
 
     ghost view = { λ line. record { number = line.number; text = line.text.now } };
+
+    ghost invariant = { λ line. line.directive ≡ known_directive line.text.now };
 }
 
 impl<'a> Line<'a> {
-    pub(crate) fn new(number: u64, text: &'a [u8]) -> Self
+    pub(crate) fn new(number: u32, text: &'a [u8]) -> Self
         ensures { result ≡ record { number = number; text = text.now } }
     {
-        Line { number, text }
+        Line {
+            number,
+            directive: Directive::of_text(text),
+            text,
+        }
     }
 
     pub(crate) fn number(&self) -> u64
         ensures { result ≡ self.now.number }
     {
-        self.number
+        u64::from(self.number)
     }
 
     pub(crate) fn text(&self) -> &'a [u8]
@@ -61,16 +76,16 @@ impl<'a> Line<'a> {
         ensures { result ≡ At self.now.number what }
     {
         ObjectsErr::At {
-            line: self.number,
+            line: self.number(),
             what,
         }
     }
 
-    /// Whether the line is the directive with a name.
-    pub(crate) fn is_named(&self, name: &[u8]) -> bool
-        ensures { result ≡ is_named name.now self.now.text }
+    /// Whether the line is a known directive.
+    pub(crate) fn is_directive(&self, directive: Directive) -> bool
+        ensures { result ≡ is_named (directive_word directive) self.now.text }
     {
-        is_named(name, self.text)
+        self.directive == Some(directive)
     }
 
     /// The word at the front.
@@ -91,10 +106,7 @@ impl<'a> Line<'a> {
     fn is_known(&self) -> bool
         ensures { result ≡ is_known self.now.text }
     {
-        match self.text.first() {
-            Some(first) => is_known(*first, self.text),
-            None => false,
-        }
+        self.directive.is_some()
     }
 
     /// Whether the line opens or closes a block.
@@ -127,6 +139,9 @@ pub(crate) fn needed_lines(alloc: Global, b: &[u8]) -> Result<Vec<Line<'_>>, All
     ensures { IfOk result (λ lines. (rules : Rules)
         → base_of_parts rules (parts_of lines.items) ≡ base_of b.now rules) }
 {
+    if b.len() > MOST_BYTES {
+        return Err(AllocError);
+    }
     let mut lines = Vec::with_capacity(alloc, b.len() / BYTES_A_LINE)?;
     let mut at = 0;
     let mut number = 0;

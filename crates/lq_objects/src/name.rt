@@ -1,8 +1,10 @@
 ghost use Rattle.std.specs.Prelude.{◌≡◌, [], IfOk};
 ghost use Rattle.lq_objects.specs.Names.{name_of, text_or};
+ghost use Rattle.lq_objects.specs.Needed.{directive_word};
 
 use crate::directive::directive;
-use crate::kind::{Kind, Reference};
+use crate::kind::Kind;
+use crate::known::Directive;
 use crate::line::Line;
 use crate::texts::Texts;
 use lq_names::Name;
@@ -13,22 +15,27 @@ use std::alloc::AllocError;
 pub(crate) fn text_or(
     texts: &Texts,
     absent: &Text,
-    name: &[u8],
+    wanted: Directive,
     lines: &[Line<'_>],
 ) -> Result<Text, AllocError>
-    ensures { IfOk result (λ text. text ≡ text_or absent.now name.now lines.now) }
+    ensures { IfOk result
+        (λ text. text ≡ text_or absent.now (directive_word wanted) lines.now) }
 {
-    match directive(name, lines) {
+    match directive(wanted, lines) {
         Some(value) => texts.text(value),
         None => absent.clone(),
     }
 }
 
 /// The text of a directive, empty where it is absent.
-pub(crate) fn text_of(texts: &Texts, name: &[u8], lines: &[Line<'_>]) -> Result<Text, AllocError>
-    ensures { IfOk result (λ text. text ≡ text_or [] name.now lines.now) }
+pub(crate) fn text_of(
+    texts: &Texts,
+    wanted: Directive,
+    lines: &[Line<'_>],
+) -> Result<Text, AllocError>
+    ensures { IfOk result (λ text. text ≡ text_or [] (directive_word wanted) lines.now) }
 {
-    match directive(name, lines) {
+    match directive(wanted, lines) {
         Some(value) => texts.text(value),
         None => Ok(Text::empty()),
     }
@@ -40,7 +47,7 @@ pub(crate) fn name_of(texts: &Texts, kind: Kind, lines: &[Line<'_>]) -> Result<N
 {
     let first = text_of(texts, kind.name_directive(), lines)?;
     let second = match kind.second_directive() {
-        Some(name) => text_of(texts, name, lines)?,
+        Some(second) => text_of(texts, second, lines)?,
         None => Text::empty(),
     };
     Ok(Name::new(first, second))

@@ -3,6 +3,7 @@ ghost use Rattle.lq_names.specs.Names.{Name};
 ghost use Rattle.lq_objects.specs.Directories.{directory_of, names_in};
 ghost use Rattle.lq_objects.specs.Drafts.{base_of_draft, numbers_of, with_lists, with_texts};
 ghost use Rattle.lq_objects.specs.Names.{text_or};
+ghost use Rattle.lq_objects.specs.Needed.{directive_word};
 ghost use Rattle.lq_objects.specs.Objects.{command_of, contact_group_of, contact_of, fields_of};
 ghost use Rattle.lq_objects.specs.Objects.{host_group_of, host_of, number_or, objects_of};
 ghost use Rattle.lq_objects.specs.Objects.{period_of};
@@ -13,6 +14,7 @@ use crate::directive::{MOST_ATTEMPTS, directive, number_between};
 use crate::directory::Directory;
 use crate::draft::Draft;
 use crate::kind::{Kind, Reference};
+use crate::known::Directive;
 use crate::line::Line;
 use crate::name::{text_of, text_or};
 use crate::places::{host_place, ids};
@@ -91,10 +93,10 @@ impl<'r, 'a> Reader<'r, 'a> {
         ensures { IfOk result
             (λ host. host ≡ host_of (names_in self.now.directory.now) self.now.lines.now) }
     {
-        let host_name = self.text(b"host_name")?;
+        let host_name = self.text(Directive::HostName)?;
         Ok(Host {
-            alias: self.text_or(&host_name, b"alias")?,
-            address: self.text(b"address")?,
+            alias: self.text_or(&host_name, Directive::Alias)?,
+            address: self.text(Directive::Address)?,
             parents: self.ids(Reference::Parents)?,
             fields: self.fields(&host_name)?,
             host_name,
@@ -105,10 +107,10 @@ impl<'r, 'a> Reader<'r, 'a> {
         ensures { IfOk result (λ service. service
             ≡ service_of (names_in self.now.directory.now) self.now.lines.now) }
     {
-        let service_description = self.text(b"service_description")?;
+        let service_description = self.text(Directive::ServiceDescription)?;
         Ok(Service {
             host: host_place(self.texts, self.directory, self.lines)?,
-            host_name: self.text(b"host_name")?,
+            host_name: self.text(Directive::HostName)?,
             fields: self.fields(&service_description)?,
             service_description,
         })
@@ -136,8 +138,18 @@ impl<'r, 'a> Reader<'r, 'a> {
             check_command: Text::empty(),
             check_period: Text::empty(),
             notification_period: Text::empty(),
-            max_check_attempts: number_or_one(1, MOST_ATTEMPTS, b"max_check_attempts", self.lines),
-            notifications_enabled: number_or_one(0, 1, b"notifications_enabled", self.lines) as u8,
+            max_check_attempts: number_or_one(
+                1,
+                MOST_ATTEMPTS,
+                Directive::MaxCheckAttempts,
+                self.lines,
+            ),
+            notifications_enabled: number_or_one(
+                0,
+                1,
+                Directive::NotificationsEnabled,
+                self.lines,
+            ) as u8,
             contacts: Items::new(alloc),
             contact_groups: Items::new(alloc),
             notes: Text::empty(),
@@ -152,14 +164,14 @@ impl<'r, 'a> Reader<'r, 'a> {
         ensures { OnOk result (fields.new
             ≡ with_texts own_name.now self.now.lines.now fields.old) }
     {
-        fields.display_name = self.text_or(own_name, b"display_name")?;
-        fields.check_command = self.text(b"check_command")?;
-        fields.check_period = self.text(b"check_period")?;
-        fields.notification_period = self.text(b"notification_period")?;
-        fields.notes = self.text(b"notes")?;
-        fields.notes_url = self.text(b"notes_url")?;
-        fields.action_url = self.text(b"action_url")?;
-        fields.icon_image = self.text(b"icon_image")?;
+        fields.display_name = self.text_or(own_name, Directive::DisplayName)?;
+        fields.check_command = self.text(Directive::CheckCommand)?;
+        fields.check_period = self.text(Directive::CheckPeriod)?;
+        fields.notification_period = self.text(Directive::NotificationPeriod)?;
+        fields.notes = self.text(Directive::Notes)?;
+        fields.notes_url = self.text(Directive::NotesUrl)?;
+        fields.action_url = self.text(Directive::ActionUrl)?;
+        fields.icon_image = self.text(Directive::IconImage)?;
         Ok(())
     }
 
@@ -177,13 +189,13 @@ impl<'r, 'a> Reader<'r, 'a> {
         ensures { IfOk result (λ group. group
             ≡ host_group_of (names_in self.now.directory.now) self.now.lines.now) }
     {
-        let hostgroup_name = self.text(b"hostgroup_name")?;
+        let hostgroup_name = self.text(Directive::HostGroupName)?;
         Ok(HostGroup {
-            alias: self.text_or(&hostgroup_name, b"alias")?,
+            alias: self.text_or(&hostgroup_name, Directive::Alias)?,
             members: self.ids(Reference::MemberHosts)?,
-            notes: self.text(b"notes")?,
-            notes_url: self.text(b"notes_url")?,
-            action_url: self.text(b"action_url")?,
+            notes: self.text(Directive::Notes)?,
+            notes_url: self.text(Directive::NotesUrl)?,
+            action_url: self.text(Directive::ActionUrl)?,
             hostgroup_name,
         })
     }
@@ -192,13 +204,13 @@ impl<'r, 'a> Reader<'r, 'a> {
         ensures { IfOk result (λ group. group
             ≡ service_group_of (names_in self.now.directory.now) self.now.lines.now) }
     {
-        let servicegroup_name = self.text(b"servicegroup_name")?;
+        let servicegroup_name = self.text(Directive::ServiceGroupName)?;
         Ok(ServiceGroup {
-            alias: self.text_or(&servicegroup_name, b"alias")?,
+            alias: self.text_or(&servicegroup_name, Directive::Alias)?,
             members: self.ids(Reference::MemberServices)?,
-            notes: self.text(b"notes")?,
-            notes_url: self.text(b"notes_url")?,
-            action_url: self.text(b"action_url")?,
+            notes: self.text(Directive::Notes)?,
+            notes_url: self.text(Directive::NotesUrl)?,
+            action_url: self.text(Directive::ActionUrl)?,
             servicegroup_name,
         })
     }
@@ -206,13 +218,13 @@ impl<'r, 'a> Reader<'r, 'a> {
     fn contact(&self) -> Result<Contact, AllocError>
         ensures { IfOk result (λ contact. contact ≡ contact_of self.now.lines.now) }
     {
-        let contact_name = self.text(b"contact_name")?;
+        let contact_name = self.text(Directive::ContactName)?;
         Ok(Contact {
-            alias: self.text_or(&contact_name, b"alias")?,
-            email: self.text(b"email")?,
-            pager: self.text(b"pager")?,
-            host_notification_period: self.text(b"host_notification_period")?,
-            service_notification_period: self.text(b"service_notification_period")?,
+            alias: self.text_or(&contact_name, Directive::Alias)?,
+            email: self.text(Directive::Email)?,
+            pager: self.text(Directive::Pager)?,
+            host_notification_period: self.text(Directive::HostNotificationPeriod)?,
+            service_notification_period: self.text(Directive::ServiceNotificationPeriod)?,
             contact_name,
         })
     }
@@ -221,9 +233,9 @@ impl<'r, 'a> Reader<'r, 'a> {
         ensures { IfOk result (λ group. group
             ≡ contact_group_of (names_in self.now.directory.now) self.now.lines.now) }
     {
-        let contactgroup_name = self.text(b"contactgroup_name")?;
+        let contactgroup_name = self.text(Directive::ContactGroupName)?;
         Ok(ContactGroup {
-            alias: self.text_or(&contactgroup_name, b"alias")?,
+            alias: self.text_or(&contactgroup_name, Directive::Alias)?,
             members: self.ids(Reference::MemberContacts)?,
             contactgroup_name,
         })
@@ -232,9 +244,9 @@ impl<'r, 'a> Reader<'r, 'a> {
     fn period(&self) -> Result<Period, AllocError>
         ensures { IfOk result (λ period. period ≡ period_of self.now.lines.now) }
     {
-        let timeperiod_name = self.text(b"timeperiod_name")?;
+        let timeperiod_name = self.text(Directive::TimePeriodName)?;
         Ok(Period {
-            alias: self.text_or(&timeperiod_name, b"alias")?,
+            alias: self.text_or(&timeperiod_name, Directive::Alias)?,
             timeperiod_name,
         })
     }
@@ -243,23 +255,25 @@ impl<'r, 'a> Reader<'r, 'a> {
         ensures { IfOk result (λ command. command ≡ command_of self.now.lines.now) }
     {
         Ok(Command {
-            command_name: self.text(b"command_name")?,
-            command_line: self.text(b"command_line")?,
+            command_name: self.text(Directive::CommandName)?,
+            command_line: self.text(Directive::CommandLine)?,
         })
     }
 
     /// The text of a directive, empty where it is absent.
-    fn text(&self, name: &[u8]) -> Result<Text, AllocError>
-        ensures { IfOk result (λ text. text ≡ text_or [] name.now self.now.lines.now) }
+    fn text(&self, wanted: Directive) -> Result<Text, AllocError>
+        ensures { IfOk result
+            (λ text. text ≡ text_or [] (directive_word wanted) self.now.lines.now) }
     {
-        text_of(self.texts, name, self.lines)
+        text_of(self.texts, wanted, self.lines)
     }
 
     /// The text of a directive, or another text where it is absent.
-    fn text_or(&self, absent: &Text, name: &[u8]) -> Result<Text, AllocError>
-        ensures { IfOk result (λ text. text ≡ text_or absent.now name.now self.now.lines.now) }
+    fn text_or(&self, absent: &Text, wanted: Directive) -> Result<Text, AllocError>
+        ensures { IfOk result
+            (λ text. text ≡ text_or absent.now (directive_word wanted) self.now.lines.now) }
     {
-        text_or(self.texts, absent, name, self.lines)
+        text_or(self.texts, absent, wanted, self.lines)
     }
 
     /// The objects that a directive names.
@@ -273,12 +287,12 @@ impl<'r, 'a> Reader<'r, 'a> {
 }
 
 /// The number of a directive that is in its range, or 1 in its absence.
-fn number_or_one(least: u32, most: u32, name: &[u8], lines: &[Line<'_>]) -> u32
+fn number_or_one(least: u32, most: u32, wanted: Directive, lines: &[Line<'_>]) -> u32
     requires { 1 ≤ most }
-    ensures value { result ≡ number_or 1 least most name.now lines.now }
+    ensures value { result ≡ number_or 1 least most (directive_word wanted) lines.now }
     ensures within { result ≤ most }
 {
-    directive(name, lines)
+    directive(wanted, lines)
         .and_then(|value| number_between(least, most, value))
         .unwrap_or(1)
 }

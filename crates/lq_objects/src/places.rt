@@ -8,6 +8,7 @@ ghost use Rattle.lq_objects.specs.Objects.{distinct, host_place, places};
 use crate::directive::directive;
 use crate::directory::Directory;
 use crate::kind::{Kind, Reference};
+use crate::known::Directive;
 use crate::line::Line;
 use crate::names::{named_in, place_of_whole};
 use crate::texts::Texts;
@@ -105,7 +106,7 @@ pub(crate) fn host_place(
       0 = host_place (places (names_in directory.now) Reference.ServiceHost lines.now);
     }) }
 {
-    let Some(value) = directive(b"host_name", lines) else {
+    let Some(value) = directive(Directive::HostName, lines) else {
         return Ok(HostId(0));
     };
     Ok(

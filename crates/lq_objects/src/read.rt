@@ -28,7 +28,7 @@ use std::alloc::{AllocError, Global};
 /// place in the list of its kind, and no list is longer than its limit. `ObjectsErr::At` comes
 /// exactly where the file has a fault, with the first one: by its line, and in one line in the
 /// order of `ObjectsWhat`, names that aren't there after all others. Any other error is that memory
-/// ran out.
+/// ran out; a file of 2 ^ 32 bytes or more is answered so too.
 pub fn read_objects(alloc: Global, b: &[u8], rules: Rules) -> Result<Base, ObjectsErr>
     ensures reads { Reads result (base_of b.now rules) }
     ensures sound { IfOk result IsSound }

@@ -4,6 +4,7 @@ ghost use Rattle.lq_objects.specs.Directories.{names_in};
 ghost use Rattle.lq_objects.specs.Faults.{decides, first_of, is_unknown, names_unknown, unknown_in};
 ghost use Rattle.lq_objects.specs.Faults.{unknown_in_block};
 ghost use Rattle.lq_objects.specs.Blocks.{is_named};
+ghost use Rattle.lq_objects.specs.Needed.{directive_word};
 ghost use Rattle.lq_names.specs.Names.{place_of};
 
 use crate::block::Block;
@@ -11,6 +12,7 @@ use crate::directive::value_of;
 use crate::directory::Directory;
 use crate::fault::{Fault, ObjectsWhat};
 use crate::kind::{Kind, Reference};
+use crate::known::Directive;
 use crate::line::Line;
 use crate::names::{named_in, place_of_whole};
 use crate::part::after;
@@ -98,7 +100,7 @@ impl<'d> Finder<'d> {
             ≡ names_unknown (names_in self.now.directory.now) line.now later.now reference) }
     {
         if decides(reference.directive(), line, later) {
-            let value = value_of(reference.directive(), line.text());
+            let value = value_of(reference.directive().word(), line.text());
             self.is_unknown(reference, value)
         } else {
             Ok(false)
@@ -123,17 +125,17 @@ impl<'d> Finder<'d> {
 }
 
 /// Whether a line is the last one with a directive.
-fn decides(name: &[u8], line: &Line<'_>, later: &[Line<'_>]) -> bool
-    ensures { result ≡ decides name.now line.now later.now }
+fn decides(wanted: Directive, line: &Line<'_>, later: &[Line<'_>]) -> bool
+    ensures { result ≡ decides (directive_word wanted) line.now later.now }
 {
-    line.is_named(name) && !is_among(name, later)
+    line.is_directive(wanted) && !is_among(wanted, later)
 }
 
 /// Whether a directive is among lines.
-fn is_among(name: &[u8], lines: &[Line<'_>]) -> bool
-    ensures { result ≡ list_any (λ line. is_named name.now line.text) lines.now }
+fn is_among(wanted: Directive, lines: &[Line<'_>]) -> bool
+    ensures { result ≡ list_any (λ line. is_named (directive_word wanted) line.text) lines.now }
 {
-    lines.iter().any(|line| line.is_named(name))
+    lines.iter().any(|line| line.is_directive(wanted))
 }
 
 /// Whether one of the names isn't there.
