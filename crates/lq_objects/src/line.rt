@@ -1,4 +1,5 @@
-ghost use Rattle.std.specs.Prelude.{◌≡◌, ℕ, IsTrue, ◌<◌, ◌≤◌, ◌==◌, ◌||◌, ◌&&◌, IfOk, length};
+ghost use Rattle.std.specs.Prelude.{◌≡◌, ℕ, IsTrue, ◌<◌, ◌≤◌, ◌^◌, ◌==◌, ◌||◌, ◌&&◌, IfOk};
+ghost use Rattle.std.specs.Prelude.{length};
 ghost use Rattle.std.specs.Prelude.{slice_index, take};
 ghost use Rattle.std.specs.List.{list_any};
 ghost use Rattle.std.specs.Option.{option_copied};
@@ -136,8 +137,9 @@ impl<'a> Line<'a> {
 /// aren't needed in their block are left out. Outside a block each line that says something is
 /// there.
 pub(crate) fn needed_lines(alloc: Global, b: &[u8]) -> Result<Vec<Line<'_>>, AllocError>
-    ensures { IfOk result (λ lines. (rules : Rules)
+    ensures lines { IfOk result (λ lines. (rules : Rules)
         → base_of_parts rules (parts_of lines.items) ≡ base_of b.now rules) }
+    ensures short { IfOk result (λ lines. length b.now < 2 ^ 32) }
 {
     if b.len() > MOST_BYTES {
         return Err(AllocError);

@@ -1,4 +1,4 @@
-ghost use Rattle.std.specs.Prelude.{◌≡◌, ◌++◌, [], Ok, IfOk, OnOk};
+ghost use Rattle.std.specs.Prelude.{◌≡◌, ◌≤◌, ◌^◌, ◌++◌, [], Ok, IfOk, OnOk, length};
 ghost use Rattle.std.specs.Option.{option_copied};
 ghost use Rattle.lq_records.specs.Sound.{IsSound};
 ghost use Rattle.lq_objects.specs.Blocks.{parts_of};
@@ -7,7 +7,7 @@ ghost use Rattle.lq_objects.specs.Directories.{directory_of, names_in};
 ghost use Rattle.lq_objects.specs.Faults.{block_of, blocks_of, part_fault, parts_fault};
 ghost use Rattle.lq_objects.specs.Names.{block_names};
 ghost use Rattle.lq_objects.specs.Objects.{base_of, base_of_parts, objects_of};
-ghost use Rattle.lq_objects.specs.Reading.{Reads};
+ghost use Rattle.lq_objects.specs.Reading.{IsOutOfMemory, Reads};
 
 use crate::block::Block;
 use crate::check::read_part;
@@ -32,6 +32,7 @@ use std::alloc::{AllocError, Global};
 pub fn read_objects(alloc: Global, b: &[u8], rules: Rules) -> Result<Base, ObjectsErr>
     ensures reads { Reads result (base_of b.now rules) }
     ensures sound { IfOk result IsSound }
+    ensures long { 2 ^ 32 ≤ length b.now → IsOutOfMemory result }
 {
     match needed_lines(alloc, b) {
         Ok(lines) => read_lines(alloc, &lines, rules),
