@@ -1,5 +1,5 @@
 ghost use Rattle.std.specs.Prelude.{◌≡◌, ◌++◌, ◌∷◌, ◌<◌, ◌^◌, [], length, map, false, None, OnOk};
-ghost use Rattle.std.specs.Prelude.{OnErr, IfSome};
+ghost use Rattle.std.specs.Prelude.{OnErr, IfSome, Some, slice_get};
 ghost use Rattle.std.specs.List.{list_any};
 ghost use Rattle.lq_names.specs.Names.{is_equal_name, both_parts, place_of};
 
@@ -64,6 +64,14 @@ impl NameIndex {
             Some(place) => Some(place as u32),
             None => None,
         }
+    }
+
+    /// Both parts of the name at a place.
+    pub fn parts_at(&self, place: usize) -> &(Text, Text)
+        requires { place < length self.now }
+        ensures { slice_get (map both_parts self.now) place ≡ Some result.now }
+    {
+        &self.names[place]
     }
 
     /// Whether a name is there.

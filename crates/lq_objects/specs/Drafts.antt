@@ -1,13 +1,14 @@
 -- The objects that are gathered while a file is read.
-use Rattle.std.specs.Prelude.{ℕ, List, [], codes}
-use Rattle.lq_names.specs.Names.{Name}
+use Rattle.std.specs.Prelude.{ℕ, List, [], codes, length}
+use Rattle.lq_names.specs.Names.{Name, both_parts}
 use Rattle.lq_records.specs.declared.base.Base.{Base}
 use Rattle.lq_records.specs.declared.base.ObjectFields.{ObjectFields}
 use Rattle.lq_objects.specs.Blocks.{Line}
-use Rattle.lq_objects.specs.Names.{text_or}
+use Rattle.lq_objects.specs.Names.{name_of, text_or}
 use Rattle.lq_objects.specs.Objects.{custom_variables, ids, number_or}
 use Rattle.lq_objects.specs.declared.draft.Draft.{Draft}
 use Rattle.lq_objects.specs.declared.kind.Kind.{Kind}
+use Rattle.lq_objects.specs.declared.kind.Kind.TheVariants as kind
 use Rattle.lq_objects.specs.declared.kind.Reference.TheVariants as reference
 
 -- the base of the objects so far
@@ -23,6 +24,21 @@ base_of_draft draft = record {
   commands = draft.commands;
   rules = draft.rules;
 }
+
+-- how many objects of a kind there are
+abbrev pub count_of_kind : Base → Kind → ℕ
+count_of_kind base kind.Host = length base.hosts
+count_of_kind base kind.Service = length base.services
+count_of_kind base kind.HostGroup = length base.host_groups
+count_of_kind base kind.ServiceGroup = length base.service_groups
+count_of_kind base kind.Contact = length base.contacts
+count_of_kind base kind.ContactGroup = length base.contact_groups
+count_of_kind base kind.Period = length base.periods
+count_of_kind base kind.Command = length base.commands
+
+-- both parts of the name that a block of a kind gives its object
+abbrev pub own_name_of : Kind → List Line → List ℕ × List ℕ
+own_name_of kind lines = both_parts (name_of kind lines)
 
 -- ---- what hosts and services share, field by field
 

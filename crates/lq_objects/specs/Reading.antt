@@ -1,5 +1,5 @@
 -- What reading an object file answers.
-use Rattle.std.specs.Prelude.{◌≡◌, ℕ, Result, Ok, Err, List, ⊤, codes}
+use Rattle.std.specs.Prelude.{◌≡◌, ℕ, Result, Ok, Err, List, codes}
 use Rattle.lq_objects.specs.declared.fault.Fault.{Fault}
 use Rattle.lq_objects.specs.declared.fault.ObjectsErr.{ObjectsErr}
 use Rattle.lq_objects.specs.declared.fault.ObjectsErr.TheVariants.{At, Memory}
@@ -13,12 +13,6 @@ abbrev pub Reads : {X : Type 0} → Result X ObjectsErr → Result X Fault → T
 Reads (Ok found) read = read ≡ Ok found
 Reads (Err (At line what)) read = read ≡ Err (record { line = line; what = what })
 Reads (Err (Memory _)) read = Unit {0}
-
--- a result is out of memory
-abbrev pub IsOutOfMemory : {X : Type 0} → Result X ObjectsErr → Type 0
-IsOutOfMemory (Ok found) = ⊥
-IsOutOfMemory (Err (At line what)) = ⊥
-IsOutOfMemory (Err (Memory _)) = ⊤
 
 -- the words for what is wrong in a line
 abbrev pub what_text : ObjectsWhat → List ℕ

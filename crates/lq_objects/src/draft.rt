@@ -27,7 +27,7 @@ pub(crate) struct Draft {
 }
 
 impl Draft {
-    ghost use Rattle.lq_objects.specs.Drafts.{base_of_draft};
+    ghost use Rattle.lq_objects.specs.Drafts.{base_of_draft, count_of_kind};
 
     /// No objects. It takes no memory.
     pub(crate) fn new(alloc: Global, rules: Rules) -> Self
@@ -43,6 +43,22 @@ impl Draft {
             periods: Items::new(alloc),
             commands: Items::new(alloc),
             rules,
+        }
+    }
+
+    /// How many objects of a kind there are so far, which is the place of the next one.
+    pub(crate) fn count(&self, kind: Kind) -> usize
+        ensures { result ≡ count_of_kind (base_of_draft self.now) kind }
+    {
+        match kind {
+            Kind::Host => self.hosts.len(),
+            Kind::Service => self.services.len(),
+            Kind::HostGroup => self.host_groups.len(),
+            Kind::ServiceGroup => self.service_groups.len(),
+            Kind::Contact => self.contacts.len(),
+            Kind::ContactGroup => self.contact_groups.len(),
+            Kind::Period => self.periods.len(),
+            Kind::Command => self.commands.len(),
         }
     }
 

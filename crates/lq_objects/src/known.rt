@@ -12,7 +12,7 @@ ghost use Rattle.lq_objects.specs.declared.known.Directive.TheVariants.{Notifica
 use crate::line::is_named;
 
 /// A directive that says something of an object of some kind.
-#[derive(Clone, Copy, PartialEq, Eq, Drop)]
+#[derive(Clone, Copy, PartialEq, Eq)]
 pub(crate) enum Directive {
     ActionUrl,
     Address,

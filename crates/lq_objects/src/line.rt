@@ -1,4 +1,4 @@
-ghost use Rattle.std.specs.Prelude.{◌≡◌, ℕ, IsTrue, ◌<◌, ◌≤◌, ◌^◌, ◌==◌, ◌||◌, ◌&&◌, IfOk};
+ghost use Rattle.std.specs.Prelude.{◌≡◌, ℕ, IsTrue, ◌<◌, ◌≤◌, ◌==◌, ◌||◌, ◌&&◌, IfOk};
 ghost use Rattle.std.specs.Prelude.{length};
 ghost use Rattle.std.specs.Prelude.{slice_index, take};
 ghost use Rattle.std.specs.List.{list_any};
@@ -19,10 +19,6 @@ use lq_text::{is_blank, next_line, trim};
 use std::alloc::{AllocError, Global};
 use std::marker::Model;
 
-/// The most bytes of a file whose lines' numbers `u32` holds, far more than the program loads. A
-/// longer one is answered as memory that ran out.
-const MOST_BYTES: usize = 0xFFFF_FFFF;
-
 /// How many bytes of a file there are for each line that is needed, about.
 const BYTES_A_LINE: usize = 48;
 
@@ -30,8 +26,7 @@ const BYTES_A_LINE: usize = 48;
 /// both ends.
 #[derive(Drop)]
 pub(crate) struct Line<'a> {
-    /// In 32 bits, so that it shares eight bytes with the directive: a site has many lines.
-    number: u32,
+    number: u64,
     /// Which known directive the text is. It is found once.
     directive: Option<Directive>,
     text: &'a [u8],
@@ -50,7 +45,7 @@ impl<'a> Model for Line<'a> {
 }
 
 impl<'a> Line<'a> {
-    pub(crate) fn new(number: u32, text: &'a [u8]) -> Self
+    pub(crate) fn new(number: u64, text: &'a [u8]) -> Self
         ensures { result ≡ record { number = number; text = text.now } }
     {
         Line {
@@ -63,7 +58,7 @@ impl<'a> Line<'a> {
     pub(crate) fn number(&self) -> u64
         ensures { result ≡ self.now.number }
     {
-        u64::from(self.number)
+        self.number
     }
 
     pub(crate) fn text(&self) -> &'a [u8]
@@ -77,7 +72,7 @@ impl<'a> Line<'a> {
         ensures { result ≡ At self.now.number what }
     {
         ObjectsErr::At {
-            line: self.number(),
+            line: self.number,
             what,
         }
     }
@@ -137,13 +132,9 @@ impl<'a> Line<'a> {
 /// aren't needed in their block are left out. Outside a block each line that says something is
 /// there.
 pub(crate) fn needed_lines(alloc: Global, b: &[u8]) -> Result<Vec<Line<'_>>, AllocError>
-    ensures lines { IfOk result (λ lines. (rules : Rules)
+    ensures { IfOk result (λ lines. (rules : Rules)
         → base_of_parts rules (parts_of lines.items) ≡ base_of b.now rules) }
-    ensures short { IfOk result (λ lines. length b.now < 2 ^ 32) }
 {
-    if b.len() > MOST_BYTES {
-        return Err(AllocError);
-    }
     let mut lines = Vec::with_capacity(alloc, b.len() / BYTES_A_LINE)?;
     let mut at = 0;
     let mut number = 0;

@@ -1,7 +1,8 @@
 ghost use Rattle.std.specs.Prelude.{◌≡◌, ◌≤◌, List, [], IfOk, OnOk, map};
 ghost use Rattle.lq_names.specs.Names.{Name};
 ghost use Rattle.lq_objects.specs.Directories.{directory_of, names_in};
-ghost use Rattle.lq_objects.specs.Drafts.{base_of_draft, numbers_of, with_lists, with_texts};
+ghost use Rattle.lq_objects.specs.Drafts.{base_of_draft, numbers_of, own_name_of};
+ghost use Rattle.lq_objects.specs.Drafts.{with_lists, with_texts};
 ghost use Rattle.lq_objects.specs.Names.{text_or};
 ghost use Rattle.lq_objects.specs.Needed.{directive_word};
 ghost use Rattle.lq_objects.specs.Objects.{command_of, contact_group_of, contact_of, fields_of};
@@ -47,32 +48,38 @@ fn draft_of(
     rules: Rules,
     blocks: &[Block<'_, '_>],
 ) -> Result<Draft, AllocError>
+    requires { directory.now ≡ directory_of blocks.now }
     ensures { IfOk result
         (λ draft. base_of_draft draft ≡ objects_of (names_in directory.now) rules blocks.now) }
 {
     let mut draft = Draft::new(texts.alloc(), rules);
     for block in blocks {
+        let kind = block.kind();
         let reader = Reader {
             texts,
             directory,
             lines: block.lines(),
+            own_name: directory.of(kind).parts_at(draft.count(kind)),
         };
-        reader.add_to(&mut draft, block.kind())?;
+        reader.add_to(&mut draft, kind)?;
     }
     Ok(draft)
 }
 
-/// What the object of a block is read from: the block's lines, and the names of all objects.
+/// What the object of a block is read from: the block's lines, and the names of all objects. Its
+/// own name is among them, and isn't made once more.
 #[derive(Drop)]
 struct Reader<'r, 'a> {
     texts: &'r Texts,
     directory: &'r Directory,
     lines: &'r [Line<'a>],
+    own_name: &'r (Text, Text),
 }
 
 impl<'r, 'a> Reader<'r, 'a> {
     /// Adds the block's own object at the end of its kind.
     fn add_to(&self, draft: &mut Draft, kind: Kind) -> Result<(), AllocError>
+        requires { self.now.own_name.now ≡ own_name_of kind self.now.lines.now }
         ensures { OnOk result (base_of_draft draft.new ≡ with_object
             (names_in self.now.directory.now) (base_of_draft draft.old) kind self.now.lines.now) }
     {
@@ -90,10 +97,11 @@ impl<'r, 'a> Reader<'r, 'a> {
     }
 
     fn host(&self) -> Result<Host, AllocError>
+        requires { self.now.own_name.now ≡ own_name_of Kind.Host self.now.lines.now }
         ensures { IfOk result
             (λ host. host ≡ host_of (names_in self.now.directory.now) self.now.lines.now) }
     {
-        let host_name = self.text(Directive::HostName)?;
+        let host_name = self.own_name.0.clone()?;
         Ok(Host {
             alias: self.text_or(&host_name, Directive::Alias)?,
             address: self.text(Directive::Address)?,
@@ -104,13 +112,14 @@ impl<'r, 'a> Reader<'r, 'a> {
     }
 
     fn service(&self) -> Result<Service, AllocError>
+        requires { self.now.own_name.now ≡ own_name_of Kind.Service self.now.lines.now }
         ensures { IfOk result (λ service. service
             ≡ service_of (names_in self.now.directory.now) self.now.lines.now) }
     {
-        let service_description = self.text(Directive::ServiceDescription)?;
+        let service_description = self.own_name.1.clone()?;
         Ok(Service {
-            host: host_place(self.texts, self.directory, self.lines)?,
-            host_name: self.text(Directive::HostName)?,
+            host: host_place(self.directory, &self.own_name.0, self.lines)?,
+            host_name: self.own_name.0.clone()?,
             fields: self.fields(&service_description)?,
             service_description,
         })
@@ -186,10 +195,11 @@ impl<'r, 'a> Reader<'r, 'a> {
     }
 
     fn host_group(&self) -> Result<HostGroup, AllocError>
+        requires { self.now.own_name.now ≡ own_name_of Kind.HostGroup self.now.lines.now }
         ensures { IfOk result (λ group. group
             ≡ host_group_of (names_in self.now.directory.now) self.now.lines.now) }
     {
-        let hostgroup_name = self.text(Directive::HostGroupName)?;
+        let hostgroup_name = self.own_name.0.clone()?;
         Ok(HostGroup {
             alias: self.text_or(&hostgroup_name, Directive::Alias)?,
             members: self.ids(Reference::MemberHosts)?,
@@ -201,10 +211,11 @@ impl<'r, 'a> Reader<'r, 'a> {
     }
 
     fn service_group(&self) -> Result<ServiceGroup, AllocError>
+        requires { self.now.own_name.now ≡ own_name_of Kind.ServiceGroup self.now.lines.now }
         ensures { IfOk result (λ group. group
             ≡ service_group_of (names_in self.now.directory.now) self.now.lines.now) }
     {
-        let servicegroup_name = self.text(Directive::ServiceGroupName)?;
+        let servicegroup_name = self.own_name.0.clone()?;
         Ok(ServiceGroup {
             alias: self.text_or(&servicegroup_name, Directive::Alias)?,
             members: self.ids(Reference::MemberServices)?,
@@ -216,9 +227,10 @@ impl<'r, 'a> Reader<'r, 'a> {
     }
 
     fn contact(&self) -> Result<Contact, AllocError>
+        requires { self.now.own_name.now ≡ own_name_of Kind.Contact self.now.lines.now }
         ensures { IfOk result (λ contact. contact ≡ contact_of self.now.lines.now) }
     {
-        let contact_name = self.text(Directive::ContactName)?;
+        let contact_name = self.own_name.0.clone()?;
         Ok(Contact {
             alias: self.text_or(&contact_name, Directive::Alias)?,
             email: self.text(Directive::Email)?,
@@ -230,10 +242,11 @@ impl<'r, 'a> Reader<'r, 'a> {
     }
 
     fn contact_group(&self) -> Result<ContactGroup, AllocError>
+        requires { self.now.own_name.now ≡ own_name_of Kind.ContactGroup self.now.lines.now }
         ensures { IfOk result (λ group. group
             ≡ contact_group_of (names_in self.now.directory.now) self.now.lines.now) }
     {
-        let contactgroup_name = self.text(Directive::ContactGroupName)?;
+        let contactgroup_name = self.own_name.0.clone()?;
         Ok(ContactGroup {
             alias: self.text_or(&contactgroup_name, Directive::Alias)?,
             members: self.ids(Reference::MemberContacts)?,
@@ -242,9 +255,10 @@ impl<'r, 'a> Reader<'r, 'a> {
     }
 
     fn period(&self) -> Result<Period, AllocError>
+        requires { self.now.own_name.now ≡ own_name_of Kind.Period self.now.lines.now }
         ensures { IfOk result (λ period. period ≡ period_of self.now.lines.now) }
     {
-        let timeperiod_name = self.text(Directive::TimePeriodName)?;
+        let timeperiod_name = self.own_name.0.clone()?;
         Ok(Period {
             alias: self.text_or(&timeperiod_name, Directive::Alias)?,
             timeperiod_name,
@@ -252,10 +266,11 @@ impl<'r, 'a> Reader<'r, 'a> {
     }
 
     fn command(&self) -> Result<Command, AllocError>
+        requires { self.now.own_name.now ≡ own_name_of Kind.Command self.now.lines.now }
         ensures { IfOk result (λ command. command ≡ command_of self.now.lines.now) }
     {
         Ok(Command {
-            command_name: self.text(Directive::CommandName)?,
+            command_name: self.own_name.0.clone()?,
             command_line: self.text(Directive::CommandLine)?,
         })
     }

@@ -3,6 +3,8 @@ ghost use Rattle.std.specs.List.{filter_map, list_any};
 ghost use Rattle.std.specs.Option.{option_to_list};
 ghost use Rattle.lq_objects.specs.Directories.{names_in};
 ghost use Rattle.lq_names.specs.Names.{place_of};
+ghost use Rattle.lq_objects.specs.Names.{text_or};
+ghost use Rattle.lq_objects.specs.Needed.{directive_word};
 ghost use Rattle.lq_objects.specs.Objects.{distinct, host_place, places};
 
 use crate::directive::directive;
@@ -10,11 +12,11 @@ use crate::directory::Directory;
 use crate::kind::{Kind, Reference};
 use crate::known::Directive;
 use crate::line::Line;
-use crate::names::{named_in, place_of_whole};
+use crate::names::named_in;
 use crate::texts::Texts;
 use indexmap::IndexSet;
 use lq_names::{Name, NameIndex};
-use lq_records::{HostId, Id, Items};
+use lq_records::{HostId, Id, Items, Text};
 use std::alloc::{AllocError, Global};
 
 /// The most names whose places are gone over one by one, where one is there before.
@@ -96,25 +98,25 @@ fn places_of(alloc: Global, index: &NameIndex, names: &[Name]) -> Result<IndexSe
     Ok(places)
 }
 
-/// The place of the host that a service names.
+/// The place of the host that a service names. The name is the one that its lines say.
 pub(crate) fn host_place(
-    texts: &Texts,
     directory: &Directory,
+    host_name: &Text,
     lines: &[Line<'_>],
 ) -> Result<HostId, AllocError>
+    requires { host_name.now ≡ text_or [] (directive_word Directive.HostName) lines.now }
     ensures { IfOk result (λ id. id ≡ record {
       0 = host_place (places (names_in directory.now) Reference.ServiceHost lines.now);
     }) }
 {
-    let Some(value) = directive(Directive::HostName, lines) else {
+    let Some(_said) = directive(Directive::HostName, lines) else {
         return Ok(HostId(0));
     };
-    Ok(
-        match place_of_whole(texts, directory.of(Kind::Host), value)? {
-            Some(place) => HostId(place),
-            None => HostId(0),
-        },
-    )
+    let name = Name::single(host_name.clone()?);
+    Ok(match directory.of(Kind::Host).find(&name) {
+        Some(place) => HostId(place),
+        None => HostId(0),
+    })
 }
 
 /// The id of the object at a place, where there is one.

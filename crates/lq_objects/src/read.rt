@@ -1,4 +1,4 @@
-ghost use Rattle.std.specs.Prelude.{◌≡◌, ◌≤◌, ◌^◌, ◌++◌, [], Ok, IfOk, OnOk, length};
+ghost use Rattle.std.specs.Prelude.{◌≡◌, ◌++◌, [], Ok, IfOk, OnOk};
 ghost use Rattle.std.specs.Option.{option_copied};
 ghost use Rattle.lq_records.specs.Sound.{IsSound};
 ghost use Rattle.lq_objects.specs.Blocks.{parts_of};
@@ -7,7 +7,7 @@ ghost use Rattle.lq_objects.specs.Directories.{directory_of, names_in};
 ghost use Rattle.lq_objects.specs.Faults.{block_of, blocks_of, part_fault, parts_fault};
 ghost use Rattle.lq_objects.specs.Names.{block_names};
 ghost use Rattle.lq_objects.specs.Objects.{base_of, base_of_parts, objects_of};
-ghost use Rattle.lq_objects.specs.Reading.{IsOutOfMemory, Reads};
+ghost use Rattle.lq_objects.specs.Reading.{Reads};
 
 use crate::block::Block;
 use crate::check::read_part;
@@ -28,11 +28,10 @@ use std::alloc::{AllocError, Global};
 /// place in the list of its kind, and no list is longer than its limit. `ObjectsErr::At` comes
 /// exactly where the file has a fault, with the first one: by its line, and in one line in the
 /// order of `ObjectsWhat`, names that aren't there after all others. Any other error is that memory
-/// ran out; a file of 2 ^ 32 bytes or more is answered so too.
+/// ran out.
 pub fn read_objects(alloc: Global, b: &[u8], rules: Rules) -> Result<Base, ObjectsErr>
     ensures reads { Reads result (base_of b.now rules) }
     ensures sound { IfOk result IsSound }
-    ensures long { 2 ^ 32 ≤ length b.now → IsOutOfMemory result }
 {
     match needed_lines(alloc, b) {
         Ok(lines) => read_lines(alloc, &lines, rules),

@@ -222,6 +222,8 @@ fn names(alloc: Global) -> Result<NameIndex, AllocError> {
 fn assert_found<R: Abort + AllocGlobal>(rt: &R, index: &NameIndex) -> Result<(), Fail> {
     assert!(rt; index.len() == 3);
     assert!(rt; index.find(&named(rt.alloc(), "b", "a")?) == Some(1));
+    let (first, second) = index.parts_at(1);
+    assert!(rt; first.as_str() == "b" && second.as_str() == "a");
     let single = Name::single(Text::new(rt.alloc(), "a")?);
     assert!(rt; index.find(&single) == Some(2));
     drop(single);

@@ -51,9 +51,9 @@ lines-preserved c =
       same = thin_silent c.lines.number _ _ _ c.lines.lines.items (telling_lines c.args.b.now) line.lines silent c.lines.invariant.same;
     }
 
-pub returns-clause-lines : goal.returns-clause-lines
+pub returns : goal.returns
 unfolding base_of
-returns-clause-lines c =
+returns c =
     let end : c.lines.at ≡ length c.args.b.now = (c.in_default.ensures {u = tt}).none.0 refl in
     let rest : drop c.lines.at c.args.b.now ≡ [] = drop_all c.lines.at c.args.b.now (omega (arith, end)) in
     let all = ap (λ rest. c.lines.lines.items ++ telling_after c.lines.number (lines_of rest)) rest ∙ append-nil c.lines.lines.items in
