@@ -14,5 +14,6 @@ pub mod PlaceLemmas
 pub mod ReadLemmas
 pub mod SoundLemmas
 pub mod ThinLemmas
+pub mod UnknownLemmas
 pub mod VariableLemmas
 pub mod WordLemmas

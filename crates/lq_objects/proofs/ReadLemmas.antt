@@ -1,10 +1,10 @@
 -- The base of a file, or the fault that decides.
-use Rattle.std.proofs.Common.{◌≡◌, Option, Some, None, Result, Ok, Err, List, [], IsErrAnd, sym, ap, ◌∙◌, subst}
+use Rattle.std.proofs.Common.{◌≡◌, Option, Some, None, Result, Ok, Err, List, [], IfOk, IsErrAnd, sym, ap, ◌∙◌, subst}
 use Rattle.std.specs.Option.{option_or}
 use Rattle.lq_records.specs.declared.base.Base.{Base}
 use Rattle.lq_records.specs.declared.base.Rules.{Rules}
 use Rattle.lq_objects.specs.Blocks.{Part}
-use Rattle.lq_objects.specs.Checks.{Tells}
+use Rattle.lq_objects.specs.Checks.{Checks, Tells}
 use Rattle.lq_objects.specs.Directories.{directory_of, names_in}
 use Rattle.lq_objects.specs.Faults.{blocks_of, first_of, parts_fault, unknown_fault, unknown_in_block}
 use Rattle.lq_objects.specs.Names.{Block}
@@ -39,12 +39,18 @@ module _ (rules : Rules) (parts : List Part) where
     unknown_is : first_of (unknown_in_block (names_in directory)) blocks ≡ unknown_fault (blocks_of parts)
     unknown_is = ap (λ names. first_of (unknown_in_block names) blocks) (known-directory directory blocks is) ∙ ap unknown_fault all
 
-    pub reads_unknown : (fault : Fault) → Some fault ≡ first_of (unknown_in_block (names_in directory)) blocks → base_of_parts rules parts ≡ Err fault
+    reads_unknown : (fault : Fault) → Some fault ≡ first_of (unknown_in_block (names_in directory)) blocks → base_of_parts rules parts ≡ Err fault
     reads_unknown fault found = by_faults None (Some fault) fine (sym (found ∙ unknown_is))
 
-    pub reads_base : None ≡ first_of (unknown_in_block (names_in directory)) blocks
+    reads_base : None ≡ first_of (unknown_in_block (names_in directory)) blocks
         → base_of_parts rules parts ≡ Ok (objects_of (names_in directory) rules blocks)
     reads_base none =
         by_faults None None fine (sym (none ∙ unknown_is))
         ∙ ap (λ found. Ok (base_of_blocks rules found)) (sym all)
         ∙ ap (λ names. Ok (objects_of names rules blocks)) (sym (known-directory directory blocks is))
+
+    pub reads_made : (result : Result Base ObjectsErr) → Checks result (first_of (unknown_in_block (names_in directory)) blocks)
+        → IfOk result (λ base. base ≡ objects_of (names_in directory) rules blocks) → Reads result (base_of_parts rules parts)
+    reads_made (Ok base) none made = reads_base (sym none) ∙ ap Ok (sym made)
+    reads_made (Err (At line what)) fault made = reads_unknown (record { line = line; what = what }) (sym fault)
+    reads_made (Err (Memory _)) fault made = tt

@@ -1,9 +1,12 @@
 -- What one variable more does to variables of which each name comes once.
-use Rattle.std.proofs.Common.{◌≡◌, ℕ, ◌+◌, ◌<◌, Bool, true, false, not, cond, List, [], ◌∷◌, ◌++◌, map, length, get_or, take, refl, sym, ap, ap₂, ◌∙◌, ⊎_elim}
+use Rattle.std.proofs.Common.{◌≡◌, ℕ, zero, suc, ◌+◌, ◌<◌, ◌≤◌, Bool, true, false, not, cond, Some, None, List, [], ◌∷◌, ◌++◌, map, length, get_or, take, set, refl, sym, ap, ap₂, ◌∙◌, arith, ⊎_elim}
 use Rattle.std.specs.Prelude.{bytes_eq, filter}
+use Rattle.std.specs.List.{position, position_or_len}
+use Rattle.std.proofs.lemmas.Grind.{common_steps}
 use Rattle.std.proofs.lemmas.Bool.{both_ways, cases_Bool, false_from_ne_true}
 use Rattle.std.proofs.lemmas.List.{append-nil, map-append, reverse-append}
 use Rattle.std.proofs.lemmas.List.Elements.{filter_more}
+use Rattle.std.proofs.lemmas.List.Quantifiers.{position-Some}
 use Rattle.std.proofs.lemmas.Slice.Eq.{bytes_eq-Decides}
 use Rattle.indexmap.specs.IndexMap.{insert_entry}
 use Rattle.lq_objects.specs.Blocks.{Line}
@@ -99,3 +102,42 @@ pub variables-same : (lines : List Line) (at : ℕ) (line : Line) (before : List
 variables-same lines at line before within is so_far other =
     so_far ∙ sym (variables_of_more lines at line false within is other
     ∙ ap merged_variables (append-nil (map variable_of (filter (λ next. is_variable next.text) (take at lines)))))
+
+-- ---- a variable among few, which are gone over one by one
+
+abbrev has_name : List ℕ → Pair → Bool
+has_name name pair = bytes_eq name pair.0
+
+put_first : (pairs : List Pair) (new : Pair) (place : ℕ) (d : Pair) → place < length pairs → has_name new.0 (get_or pairs place d) ≡ true
+    → ((k : ℕ) → k < place → has_name new.0 (get_or pairs k d) ≡ false)
+    → set pairs place ((get_or pairs place d).0, new.1) ≡ with_pair pairs new
+put_first [] new place d within passes fails = absurd (omega (arith, within))
+put_first (pair ∷ pairs) new zero d within passes fails = rw passes refl
+put_first (pair ∷ pairs) new (suc place) d within passes fails =
+    rw (fails 0 (omega arith))
+    (ap (λ rest. pair ∷ rest) (put_first pairs new place d (omega (arith, within)) passes (λ k below. fails (suc k) (omega (arith, below)))))
+
+-- its name is there
+pub put-there : (pairs : List Pair) (name value : List ℕ) (place : ℕ) (d : Pair) → position (has_name name) pairs ≡ Some place
+    → set pairs place ((get_or pairs place d).0, value) ≡ insert_entry bytes_eq pairs name value
+put-there pairs name value place d found =
+    let first = position-Some (has_name name) pairs place d found in
+    put_first pairs (name, value) place d first.0 first.1 first.2
+
+put_last : (pairs : List Pair) (new : Pair) → length pairs ≤ position_or_len (has_name new.0) pairs → pairs ++ new ∷ [] ≡ with_pair pairs new
+put_last [] new past = refl
+put_last (pair ∷ pairs) new past = ⊎_elim
+    (λ same.
+    let first : position_or_len (has_name new.0) (pair ∷ pairs) ≡ 0 = rw same refl in
+    absurd (omega (arith, past, first)))
+    (λ other.
+    let later : position_or_len (has_name new.0) (pair ∷ pairs) ≡ 1 + position_or_len (has_name new.0) pairs = rw other refl in
+    rw other (ap (λ rest. pair ∷ rest) (put_last pairs new (omega (arith, past, later)))))
+    (cases_Bool (has_name new.0 pair))
+
+-- its name is new
+pub put-new : (pairs : List Pair) (name value : List ℕ) → position (has_name name) pairs ≡ None
+    → pairs ++ (name, value) ∷ [] ≡ insert_entry bytes_eq pairs name value
+put-new pairs name value none =
+    let past : length pairs ≤ position_or_len (has_name name) pairs = grind (arith, common_steps) in
+    put_last pairs (name, value) past

@@ -1,9 +1,12 @@
 -- What reading a part answers, and what it leaves.
-use Rattle.std.specs.Prelude.{◌≡◌, Option, Some, None, Result, Ok, Err, List, [], ◌∷◌}
+use Rattle.std.specs.Prelude.{◌≡◌, Bool, true, false, Option, Some, None, Result, Ok, Err}
+use Rattle.std.specs.Prelude.{List, [], ◌∷◌}
 use Rattle.lq_objects.specs.Directories.{with_name}
 use Rattle.lq_objects.specs.Names.{Block, name_of}
 use Rattle.lq_objects.specs.declared.directory.Directory.{Directory}
 use Rattle.lq_objects.specs.declared.fault.Fault.{Fault}
+use Rattle.lq_objects.specs.declared.fault.ObjectErr.{ObjectErr}
+use Rattle.lq_objects.specs.declared.fault.ObjectErr.TheVariants as made
 use Rattle.lq_objects.specs.declared.fault.ObjectsErr.{ObjectsErr}
 use Rattle.lq_objects.specs.declared.fault.ObjectsErr.TheVariants.{At, Memory}
 
@@ -16,6 +19,16 @@ Tells (Memory _) fault = Unit {0}
 abbrev pub Checks : {X : Type 0} → Result X ObjectsErr → Option Fault → Type 0
 Checks (Ok _) fault = fault ≡ None
 Checks (Err error) fault = Tells error fault
+
+-- an error is that something is unknown, or out of memory
+abbrev pub TellsUnknown : ObjectErr → Bool → Type 0
+TellsUnknown made.UnknownName unknown = unknown ≡ true
+TellsUnknown (made.Memory _) unknown = Unit {0}
+
+-- without an error nothing is unknown
+abbrev pub MakesUnless : {X : Type 0} → Result X ObjectErr → Bool → Type 0
+MakesUnless (Ok _) unknown = unknown ≡ false
+MakesUnless (Err error) unknown = TellsUnknown error unknown
 
 -- the names with those of further blocks
 abbrev pub with_blocks : Directory → List Block → Directory

@@ -6,7 +6,7 @@ use Rattle.std.specs.List.{list_any, list_all}
 use Rattle.std.specs.Option.{option_or, option_map_or, option_and_then}
 use Rattle.std.specs.Char.{is_ascii_digit}
 use Rattle.lq_text.specs.Numbers.{number_of}
-use Rattle.lq_objects.specs.Blocks.{Line, Part, is_named, value_of, opened_word}
+use Rattle.lq_objects.specs.Blocks.{directive, Line, Part, is_named, value_of, opened_word}
 use Rattle.lq_objects.specs.Kinds.{kind_named, limit, second_directive, references}
 use Rattle.lq_objects.specs.Kinds.{reference_directive, target}
 use Rattle.lq_names.specs.Names.{Name, is_equal_name, place_of}
@@ -159,6 +159,16 @@ is_unknown known reference value =
     option_map_or
     (λ names. list_any (λ name. is_none (place_of (known (target reference)) name)) names)
     (named_in reference value) true
+
+-- whether a block's directive names what isn't there
+abbrev pub lacks_named : (Kind → List Name) → List Line → Reference → Bool
+lacks_named known lines reference =
+    option_map_or (is_unknown known reference) (directive (reference_directive reference) lines)
+    false
+
+-- whether one of a block's directives does
+abbrev pub lacks_any_named : (Kind → List Name) → List Line → List Reference → Bool
+lacks_any_named known lines references = list_any (lacks_named known lines) references
 
 -- whether a line is the last one with a directive, so that it decides
 abbrev pub decides : List ℕ → Line → List Line → Bool

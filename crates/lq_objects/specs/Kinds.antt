@@ -60,9 +60,13 @@ second_directive Command = None
 
 -- ---- the directives that name others
 
+-- those that hosts and services share
+abbrev pub fields_references : List Reference
+fields_references = reference.Contacts ∷ reference.ContactGroups ∷ []
+
 abbrev pub references : Kind → List Reference
-references Host = reference.Parents ∷ reference.Contacts ∷ reference.ContactGroups ∷ []
-references Service = reference.ServiceHost ∷ reference.Contacts ∷ reference.ContactGroups ∷ []
+references Host = reference.Parents ∷ fields_references
+references Service = reference.ServiceHost ∷ fields_references
 references HostGroup = reference.MemberHosts ∷ []
 references ServiceGroup = reference.MemberServices ∷ []
 references Contact = []

@@ -88,3 +88,22 @@ impl Fault {
         }
     }
 }
+
+/// Why the object of a block isn't made.
+#[derive(Drop)]
+pub(crate) enum ObjectErr {
+    /// One of its directives names what isn't there.
+    UnknownName,
+    /// Out of memory.
+    Memory(AllocError),
+}
+
+impl From<AllocError> for ObjectErr {
+    ghost use Rattle.lq_objects.specs.declared.fault.ObjectErr.TheVariants.{Memory};
+
+    ghost from_gives = { λ error e. e ≡ Memory error };
+
+    fn from(error: AllocError) -> Self {
+        ObjectErr::Memory(error)
+    }
+}

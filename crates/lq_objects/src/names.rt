@@ -1,4 +1,5 @@
-ghost use Rattle.std.specs.Prelude.{◌≡◌, ◌==◌, ◌∷◌, [], IfOk, filter, map};
+ghost use Rattle.std.specs.Prelude.{◌≡◌, ◌==◌, ◌∷◌, [], IfOk, filter, is_none, map};
+ghost use Rattle.std.specs.List.{list_any};
 ghost use Rattle.std.specs.Option.{option_map};
 ghost use Rattle.lq_records.specs.Clean.{text_of_bytes};
 ghost use Rattle.lq_names.specs.Names.{place_of, single};
@@ -43,18 +44,6 @@ fn pieces(alloc: Global, value: &[u8]) -> Result<Vec<&[u8]>, AllocError>
         .collect(alloc)
 }
 
-/// The place of the object that a value names as a whole. None where it isn't there.
-pub(crate) fn place_of_whole(
-    texts: &Texts,
-    index: &NameIndex,
-    value: &[u8],
-) -> Result<Option<u32>, AllocError>
-    ensures { IfOk result (λ place. place ≡ place_of index.now (single (text_of_bytes value.now))) }
-{
-    let name = Name::single(texts.text(value)?);
-    Ok(index.find(&name))
-}
-
 /// A value that is one name.
 fn whole(texts: &Texts, value: &[u8]) -> Result<Vec<Name>, AllocError>
     ensures { IfOk result (λ names. names.items ≡ single (text_of_bytes value.now) ∷ []) }
@@ -95,4 +84,11 @@ fn pairs(texts: &Texts, pieces: &[&[u8]]) -> Result<Option<Vec<Name>>, AllocErro
     } else {
         Ok(Some(names))
     }
+}
+
+/// Whether one of the names isn't there.
+pub(crate) fn lacks_any(index: &NameIndex, names: &[Name]) -> bool
+    ensures { result ≡ list_any (λ name. is_none (place_of index.now name)) names.now }
+{
+    names.iter().any(|name| index.find(name).is_none())
 }

@@ -1,8 +1,11 @@
-ghost use Rattle.std.specs.Prelude.{◌≡◌, ◌≤◌, List, [], IfOk, OnOk, map};
+ghost use Rattle.std.specs.Prelude.{◌≡◌, ◌≤◌, List, [], IfOk, OnOk, is_some, map};
 ghost use Rattle.lq_names.specs.Names.{Name};
+ghost use Rattle.lq_objects.specs.Checks.{Checks, MakesUnless, Tells, TellsUnknown};
 ghost use Rattle.lq_objects.specs.Directories.{directory_of, names_in};
 ghost use Rattle.lq_objects.specs.Drafts.{base_of_draft, numbers_of, own_name_of};
 ghost use Rattle.lq_objects.specs.Drafts.{with_lists, with_texts};
+ghost use Rattle.lq_objects.specs.Faults.{first_of, lacks_any_named, lacks_named, unknown_in_block};
+ghost use Rattle.lq_objects.specs.Kinds.{fields_references, references};
 ghost use Rattle.lq_objects.specs.Names.{text_or};
 ghost use Rattle.lq_objects.specs.Needed.{directive_word};
 ghost use Rattle.lq_objects.specs.Objects.{command_of, contact_group_of, contact_of, fields_of};
@@ -14,12 +17,14 @@ use crate::block::Block;
 use crate::directive::{MOST_ATTEMPTS, directive, number_between};
 use crate::directory::Directory;
 use crate::draft::Draft;
+use crate::fault::{ObjectErr, ObjectsErr};
 use crate::kind::{Kind, Reference};
 use crate::known::Directive;
 use crate::line::Line;
 use crate::name::{text_of, text_or};
 use crate::places::{host_place, ids};
 use crate::texts::Texts;
+use crate::unknown::unknown_error;
 use crate::variables::custom_variables;
 use lq_records::{
     Base, Command, Contact, ContactGroup, Host, HostGroup, Id, Items, ObjectFields, Period, Rules,
@@ -27,18 +32,23 @@ use lq_records::{
 };
 use std::alloc::AllocError;
 
-/// The objects that blocks say, by the names of all, which are handed on to the base.
+/// The base of the objects that blocks say, by the names of all, which are handed on to it, or the
+/// first fault in what they name.
 pub(crate) fn objects_of(
     texts: &Texts,
     directory: Directory,
     rules: Rules,
     blocks: &[Block<'_, '_>],
-) -> Result<Base, AllocError>
+) -> Result<Base, ObjectsErr>
     requires { directory ≡ directory_of blocks.now }
-    ensures { IfOk result (λ base. base ≡ objects_of (names_in directory) rules blocks.now) }
+    ensures fault { Checks result (first_of (unknown_in_block (names_in directory)) blocks.now) }
+    ensures base { IfOk result (λ base. base ≡ objects_of (names_in directory) rules blocks.now) }
 {
     let draft = draft_of(texts, &directory, rules, blocks)?;
-    draft.finish(texts.alloc(), directory)
+    match draft.finish(texts.alloc(), directory) {
+        Ok(base) => Ok(base),
+        Err(error) => Err(ObjectsErr::Memory(error)),
+    }
 }
 
 /// The same, not yet found by their names.
@@ -47,9 +57,11 @@ fn draft_of(
     directory: &Directory,
     rules: Rules,
     blocks: &[Block<'_, '_>],
-) -> Result<Draft, AllocError>
+) -> Result<Draft, ObjectsErr>
     requires { directory.now ≡ directory_of blocks.now }
-    ensures { IfOk result
+    ensures fault { Checks result
+        (first_of (unknown_in_block (names_in directory.now)) blocks.now) }
+    ensures draft { IfOk result
         (λ draft. base_of_draft draft ≡ objects_of (names_in directory.now) rules blocks.now) }
 {
     let mut draft = Draft::new(texts.alloc(), rules);
@@ -61,9 +73,28 @@ fn draft_of(
             lines: block.lines(),
             own_name: directory.of(kind).parts_at(draft.count(kind)),
         };
-        reader.add_to(&mut draft, kind)?;
+        if let Err(error) = reader.add_to(&mut draft, kind) {
+            return Err(objects_err(texts, directory, block, error));
+        }
     }
     Ok(draft)
+}
+
+/// Why a file gives no base, where the object of a block isn't made.
+fn objects_err(
+    texts: &Texts,
+    directory: &Directory,
+    block: &Block<'_, '_>,
+    error: ObjectErr,
+) -> ObjectsErr
+    requires { TellsUnknown error
+        (is_some (unknown_in_block (names_in directory.now) block.now)) }
+    ensures { Tells result (unknown_in_block (names_in directory.now) block.now) }
+{
+    match error {
+        ObjectErr::UnknownName => unknown_error(texts, directory, block),
+        ObjectErr::Memory(error) => ObjectsErr::Memory(error),
+    }
 }
 
 /// What the object of a block is read from: the block's lines, and the names of all objects. Its
@@ -78,10 +109,12 @@ struct Reader<'r, 'a> {
 
 impl<'r, 'a> Reader<'r, 'a> {
     /// Adds the block's own object at the end of its kind.
-    fn add_to(&self, draft: &mut Draft, kind: Kind) -> Result<(), AllocError>
+    fn add_to(&self, draft: &mut Draft, kind: Kind) -> Result<(), ObjectErr>
         requires { self.now.own_name.now ≡ own_name_of kind self.now.lines.now }
-        ensures { OnOk result (base_of_draft draft.new ≡ with_object
+        ensures object { OnOk result (base_of_draft draft.new ≡ with_object
             (names_in self.now.directory.now) (base_of_draft draft.old) kind self.now.lines.now) }
+        ensures unknown { MakesUnless result (lacks_any_named
+            (names_in self.now.directory.now) self.now.lines.now (references kind)) }
     {
         match kind {
             Kind::Host => draft.hosts.push(self.host()?)?,
@@ -96,10 +129,12 @@ impl<'r, 'a> Reader<'r, 'a> {
         Ok(())
     }
 
-    fn host(&self) -> Result<Host, AllocError>
+    fn host(&self) -> Result<Host, ObjectErr>
         requires { self.now.own_name.now ≡ own_name_of Kind.Host self.now.lines.now }
-        ensures { IfOk result
+        ensures host { IfOk result
             (λ host. host ≡ host_of (names_in self.now.directory.now) self.now.lines.now) }
+        ensures unknown { MakesUnless result (lacks_any_named
+            (names_in self.now.directory.now) self.now.lines.now (references Kind.Host)) }
     {
         let host_name = self.own_name.0.clone()?;
         Ok(Host {
@@ -111,10 +146,12 @@ impl<'r, 'a> Reader<'r, 'a> {
         })
     }
 
-    fn service(&self) -> Result<Service, AllocError>
+    fn service(&self) -> Result<Service, ObjectErr>
         requires { self.now.own_name.now ≡ own_name_of Kind.Service self.now.lines.now }
-        ensures { IfOk result (λ service. service
+        ensures service { IfOk result (λ service. service
             ≡ service_of (names_in self.now.directory.now) self.now.lines.now) }
+        ensures unknown { MakesUnless result (lacks_any_named
+            (names_in self.now.directory.now) self.now.lines.now (references Kind.Service)) }
     {
         let service_description = self.own_name.1.clone()?;
         Ok(Service {
@@ -126,9 +163,11 @@ impl<'r, 'a> Reader<'r, 'a> {
     }
 
     /// What a host or a service has beside its name.
-    fn fields(&self, own_name: &Text) -> Result<ObjectFields, AllocError>
-        ensures { IfOk result (λ fields. fields
+    fn fields(&self, own_name: &Text) -> Result<ObjectFields, ObjectErr>
+        ensures fields { IfOk result (λ fields. fields
             ≡ fields_of (names_in self.now.directory.now) own_name.now self.now.lines.now) }
+        ensures unknown { MakesUnless result (lacks_any_named
+            (names_in self.now.directory.now) self.now.lines.now fields_references) }
     {
         let mut fields = self.numbers();
         self.fill_texts(&mut fields, own_name)?;
@@ -184,9 +223,11 @@ impl<'r, 'a> Reader<'r, 'a> {
         Ok(())
     }
 
-    fn fill_lists(&self, fields: &mut ObjectFields) -> Result<(), AllocError>
-        ensures { OnOk result (fields.new
+    fn fill_lists(&self, fields: &mut ObjectFields) -> Result<(), ObjectErr>
+        ensures lists { OnOk result (fields.new
             ≡ with_lists (names_in self.now.directory.now) self.now.lines.now fields.old) }
+        ensures unknown { MakesUnless result (lacks_any_named
+            (names_in self.now.directory.now) self.now.lines.now fields_references) }
     {
         fields.contacts = self.ids(Reference::Contacts)?;
         fields.contact_groups = self.ids(Reference::ContactGroups)?;
@@ -194,10 +235,12 @@ impl<'r, 'a> Reader<'r, 'a> {
         Ok(())
     }
 
-    fn host_group(&self) -> Result<HostGroup, AllocError>
+    fn host_group(&self) -> Result<HostGroup, ObjectErr>
         requires { self.now.own_name.now ≡ own_name_of Kind.HostGroup self.now.lines.now }
-        ensures { IfOk result (λ group. group
+        ensures group { IfOk result (λ group. group
             ≡ host_group_of (names_in self.now.directory.now) self.now.lines.now) }
+        ensures unknown { MakesUnless result (lacks_any_named
+            (names_in self.now.directory.now) self.now.lines.now (references Kind.HostGroup)) }
     {
         let hostgroup_name = self.own_name.0.clone()?;
         Ok(HostGroup {
@@ -210,10 +253,12 @@ impl<'r, 'a> Reader<'r, 'a> {
         })
     }
 
-    fn service_group(&self) -> Result<ServiceGroup, AllocError>
+    fn service_group(&self) -> Result<ServiceGroup, ObjectErr>
         requires { self.now.own_name.now ≡ own_name_of Kind.ServiceGroup self.now.lines.now }
-        ensures { IfOk result (λ group. group
+        ensures group { IfOk result (λ group. group
             ≡ service_group_of (names_in self.now.directory.now) self.now.lines.now) }
+        ensures unknown { MakesUnless result (lacks_any_named
+            (names_in self.now.directory.now) self.now.lines.now (references Kind.ServiceGroup)) }
     {
         let servicegroup_name = self.own_name.0.clone()?;
         Ok(ServiceGroup {
@@ -241,10 +286,12 @@ impl<'r, 'a> Reader<'r, 'a> {
         })
     }
 
-    fn contact_group(&self) -> Result<ContactGroup, AllocError>
+    fn contact_group(&self) -> Result<ContactGroup, ObjectErr>
         requires { self.now.own_name.now ≡ own_name_of Kind.ContactGroup self.now.lines.now }
-        ensures { IfOk result (λ group. group
+        ensures group { IfOk result (λ group. group
             ≡ contact_group_of (names_in self.now.directory.now) self.now.lines.now) }
+        ensures unknown { MakesUnless result (lacks_any_named
+            (names_in self.now.directory.now) self.now.lines.now (references Kind.ContactGroup)) }
     {
         let contactgroup_name = self.own_name.0.clone()?;
         Ok(ContactGroup {
@@ -292,10 +339,12 @@ impl<'r, 'a> Reader<'r, 'a> {
     }
 
     /// The objects that a directive names.
-    fn ids<T: Id>(&self, reference: Reference) -> Result<Items<T>, AllocError>
-        ensures { IfOk result (λ ids. ids
+    fn ids<T: Id>(&self, reference: Reference) -> Result<Items<T>, ObjectErr>
+        ensures ids { IfOk result (λ ids. ids
             ≡ map T.id_at (places (names_in self.now.directory.now) reference
             self.now.lines.now)) }
+        ensures unknown { MakesUnless result
+            (lacks_named (names_in self.now.directory.now) self.now.lines.now reference) }
     {
         ids(self.texts, self.directory, reference, self.lines)
     }

@@ -1,7 +1,9 @@
 ghost use Rattle.std.specs.Prelude.{◌≡◌, ◌++◌, ◌∷◌, [], if◌then◌else◌, nat_eq, IfOk, OnOk, map};
 ghost use Rattle.std.specs.List.{filter_map, list_any};
 ghost use Rattle.std.specs.Option.{option_to_list};
+ghost use Rattle.lq_objects.specs.Checks.{MakesUnless};
 ghost use Rattle.lq_objects.specs.Directories.{names_in};
+ghost use Rattle.lq_objects.specs.Faults.{lacks_named};
 ghost use Rattle.lq_names.specs.Names.{place_of};
 ghost use Rattle.lq_objects.specs.Names.{text_or};
 ghost use Rattle.lq_objects.specs.Needed.{directive_word};
@@ -9,10 +11,11 @@ ghost use Rattle.lq_objects.specs.Objects.{distinct, host_place, places};
 
 use crate::directive::directive;
 use crate::directory::Directory;
+use crate::fault::ObjectErr;
 use crate::kind::{Kind, Reference};
 use crate::known::Directive;
 use crate::line::Line;
-use crate::names::named_in;
+use crate::names::{lacks_any, named_in};
 use crate::texts::Texts;
 use indexmap::IndexSet;
 use lq_names::{Name, NameIndex};
@@ -22,24 +25,29 @@ use std::alloc::{AllocError, Global};
 /// The most names whose places are gone over one by one, where one is there before.
 const FEW: usize = 8;
 
-/// The objects that a block's directive names, in order and without repeats.
+/// The objects that a block's directive names, in order and without repeats. All must be there.
 pub(crate) fn ids<T: Id>(
     texts: &Texts,
     directory: &Directory,
     reference: Reference,
     lines: &[Line<'_>],
-) -> Result<Items<T>, AllocError>
-    ensures { IfOk result
+) -> Result<Items<T>, ObjectErr>
+    ensures ids { IfOk result
         (λ ids. ids ≡ map T.id_at (places (names_in directory.now) reference lines.now)) }
+    ensures unknown { MakesUnless result
+        (lacks_named (names_in directory.now) lines.now reference) }
 {
-    let names = match directive(reference.directive(), lines) {
-        Some(value) => named_in(texts, reference, value)?,
-        None => None,
+    let Some(value) = directive(reference.directive(), lines) else {
+        return Ok(Items::new(texts.alloc()));
     };
-    match names {
-        Some(names) => ids_of(texts.alloc(), directory.of(reference.target()), &names),
-        None => Ok(Items::new(texts.alloc())),
+    let Some(names) = named_in(texts, reference, value)? else {
+        return Err(ObjectErr::UnknownName);
+    };
+    let index = directory.of(reference.target());
+    if lacks_any(index, &names) {
+        return Err(ObjectErr::UnknownName);
     }
+    Ok(ids_of(texts.alloc(), index, &names)?)
 }
 
 /// The objects that have names, in order and without repeats.
@@ -103,20 +111,22 @@ pub(crate) fn host_place(
     directory: &Directory,
     host_name: &Text,
     lines: &[Line<'_>],
-) -> Result<HostId, AllocError>
+) -> Result<HostId, ObjectErr>
     requires { host_name.now ≡ text_or [] (directive_word Directive.HostName) lines.now }
-    ensures { IfOk result (λ id. id ≡ record {
+    ensures host { IfOk result (λ id. id ≡ record {
       0 = host_place (places (names_in directory.now) Reference.ServiceHost lines.now);
     }) }
+    ensures unknown { MakesUnless result
+        (lacks_named (names_in directory.now) lines.now Reference.ServiceHost) }
 {
     let Some(_said) = directive(Directive::HostName, lines) else {
         return Ok(HostId(0));
     };
     let name = Name::single(host_name.clone()?);
-    Ok(match directory.of(Kind::Host).find(&name) {
-        Some(place) => HostId(place),
-        None => HostId(0),
-    })
+    match directory.of(Kind::Host).find(&name) {
+        Some(place) => Ok(HostId(place)),
+        None => Err(ObjectErr::UnknownName),
+    }
 }
 
 /// The id of the object at a place, where there is one.

@@ -17,7 +17,6 @@ use crate::line::{Line, needed_lines};
 use crate::objects::objects_of;
 use crate::part::{Part, after, first_part};
 use crate::texts::Texts;
-use crate::unknown::unknown_fault;
 use lq_records::{Base, Rules};
 use std::alloc::{AllocError, Global};
 
@@ -46,27 +45,7 @@ fn read_lines(alloc: Global, lines: &[Line<'_>], rules: Rules) -> Result<Base, O
     let texts = Texts::new(alloc).map_err(ObjectsErr::Memory)?;
     let mut directory = Directory::new(alloc);
     let found = read_blocks(&texts, &mut directory, lines)?;
-    match unknown_fault(&texts, &directory, &found) {
-        Ok(None) => read_known(&texts, directory, &found, rules),
-        Ok(Some(fault)) => Err(fault.error()),
-        Err(error) => Err(ObjectsErr::Memory(error)),
-    }
-}
-
-/// The base that blocks say which name only what is there.
-fn read_known(
-    texts: &Texts,
-    directory: Directory,
-    blocks: &[Block<'_, '_>],
-    rules: Rules,
-) -> Result<Base, ObjectsErr>
-    requires { directory ≡ directory_of blocks.now }
-    ensures { Reads result (Ok (objects_of (names_in directory) rules blocks.now)) }
-{
-    match objects_of(texts, directory, rules, blocks) {
-        Ok(base) => Ok(base),
-        Err(error) => Err(ObjectsErr::Memory(error)),
-    }
+    objects_of(&texts, directory, rules, &found)
 }
 
 /// The blocks of known kinds, whose objects' names go into the directory, or the first fault of the

@@ -1,41 +1,39 @@
-ghost use Rattle.std.specs.Prelude.{◌≡◌, IfOk, is_none};
+ghost use Rattle.std.specs.Prelude.{◌≡◌, IfOk, is_some, true};
 ghost use Rattle.std.specs.List.{list_any};
+ghost use Rattle.lq_objects.specs.Checks.{Tells};
 ghost use Rattle.lq_objects.specs.Directories.{names_in};
-ghost use Rattle.lq_objects.specs.Faults.{decides, first_of, is_unknown, names_unknown, unknown_in};
+ghost use Rattle.lq_objects.specs.Faults.{decides, is_unknown, names_unknown, unknown_in};
 ghost use Rattle.lq_objects.specs.Faults.{unknown_in_block};
 ghost use Rattle.lq_objects.specs.Blocks.{is_named};
 ghost use Rattle.lq_objects.specs.Needed.{directive_word};
-ghost use Rattle.lq_names.specs.Names.{place_of};
 
 use crate::block::Block;
 use crate::directive::value_of;
 use crate::directory::Directory;
-use crate::fault::{Fault, ObjectsWhat};
+use crate::fault::{Fault, ObjectsErr, ObjectsWhat};
 use crate::kind::{Kind, Reference};
 use crate::known::Directive;
 use crate::line::Line;
-use crate::names::{named_in, place_of_whole};
+use crate::names::{lacks_any, named_in};
 use crate::part::after;
 use crate::texts::Texts;
-use lq_names::{Name, NameIndex};
 use std::alloc::AllocError;
 
-/// The first line of blocks that names what isn't there.
-pub(crate) fn unknown_fault(
+/// The fault of a block that names what isn't there, as an error: its first line that does so.
+pub(crate) fn unknown_error(
     texts: &Texts,
     directory: &Directory,
-    blocks: &[Block<'_, '_>],
-) -> Result<Option<Fault>, AllocError>
-    ensures { IfOk result
-        (λ fault. fault ≡ first_of (unknown_in_block (names_in directory.now)) blocks.now) }
+    block: &Block<'_, '_>,
+) -> ObjectsErr
+    requires { is_some (unknown_in_block (names_in directory.now) block.now) ≡ true }
+    ensures { Tells result (unknown_in_block (names_in directory.now) block.now) }
 {
     let finder = Finder { texts, directory };
-    for block in blocks {
-        if let Some(fault) = finder.unknown_in_block(block)? {
-            return Ok(Some(fault));
-        }
+    match finder.unknown_in_block(block) {
+        Ok(Some(fault)) => fault.error(),
+        Ok(None) => unreachable!(),
+        Err(error) => ObjectsErr::Memory(error),
     }
-    Ok(None)
 }
 
 /// What names are looked up in: the names of all objects.
@@ -113,14 +111,10 @@ impl<'d> Finder<'d> {
             (λ unknown. unknown
             ≡ is_unknown (names_in self.now.directory.now) reference value.now) }
     {
-        let index = self.directory.of(reference.target());
-        if let Reference::ServiceHost = reference {
-            return Ok(place_of_whole(self.texts, index, value)?.is_none());
-        }
         let Some(names) = named_in(self.texts, reference, value)? else {
             return Ok(true);
         };
-        Ok(lacks_any(index, &names))
+        Ok(lacks_any(self.directory.of(reference.target()), &names))
     }
 }
 
@@ -136,11 +130,4 @@ fn is_among(wanted: Directive, lines: &[Line<'_>]) -> bool
     ensures { result ≡ list_any (λ line. is_named (directive_word wanted) line.text) lines.now }
 {
     lines.iter().any(|line| line.is_directive(wanted))
-}
-
-/// Whether one of the names isn't there.
-fn lacks_any(index: &NameIndex, names: &[Name]) -> bool
-    ensures { result ≡ list_any (λ name. is_none (place_of index.now name)) names.now }
-{
-    names.iter().any(|name| index.find(name).is_none())
 }
