@@ -118,7 +118,7 @@ fn numbered(alloc: Global, number: usize) -> Result<Name, AllocError> {
 impl Call for NameIndex {
     fn make(&mut self, alloc: Global) -> Result<bool, AllocError> {
         let name = numbered(alloc, self.len())?;
-        if self.contains(&name) {
+        if self.contains(&name) || self.len() > 1_000_000 {
             return Ok(false);
         }
         self.push(name)?;
@@ -157,12 +157,12 @@ fn no_fields(alloc: Global) -> ObjectFields {
     }
 }
 
-/// Adds a name that isn't there.
+/// Adds a name that isn't there to a thousand at most.
 fn push_name(names: &mut NameIndex, name: &Text) -> Result<(), AllocError>
     ensures { OnOk result (names.new ≡ names.old ++ single name.now ∷ []) }
 {
     let name = Name::single(name.clone()?);
-    if names.contains(&name) {
+    if names.contains(&name) || names.len() > 1_000 {
         return Err(AllocError);
     }
     names.push(name)

@@ -1,4 +1,4 @@
-ghost use Rattle.std.specs.Prelude.{◌≡◌, ◌++◌, ◌∷◌, ◌<◌, ◌^◌, [], length, map, false, None, OnOk};
+ghost use Rattle.std.specs.Prelude.{◌≡◌, ◌++◌, ◌∷◌, ◌<◌, ◌+◌, ◌^◌, [], length, map, false, None, OnOk};
 ghost use Rattle.std.specs.Prelude.{OnErr, IfSome, Some, slice_get};
 ghost use Rattle.std.specs.List.{list_any};
 ghost use Rattle.lq_names.specs.Names.{is_equal_name, both_parts, place_of};
@@ -10,7 +10,7 @@ use std::alloc::{AllocError, Global};
 use std::marker::Model;
 
 /// Different names of one kind in order, with the place of each. Contracts see them as a list.
-/// There are fewer than 2 ^ 32, so that a `u32` holds each place.
+/// There are fewer than 2 ^ 32, so that a `u32` holds each place: who adds one sees to that.
 pub struct NameIndex {
     names: IndexSet<(Text, Text)>,
 }
@@ -33,10 +33,6 @@ impl Model for NameIndex {
 
     ghost invariant = { λ index. length index.names.keys < 2 ^ 32 };
 }
-
-/// The most names that an index holds, far more than there is memory for. One more is answered as
-/// memory that ran out.
-const MOST_NAMES: usize = 0xFFFF_FFFF;
 
 impl NameIndex {
     /// No names. It takes no memory.
@@ -85,13 +81,11 @@ impl NameIndex {
     /// Adds at the end a name that isn't there yet. The only error is that memory runs out; the
     /// names then stay as they were.
     pub fn push(&mut self, name: Name) -> Result<(), AllocError>
-        requires { place_of self.old name ≡ None }
+        requires new { place_of self.old name ≡ None }
+        requires few { length self.old + 1 < 2 ^ 32 }
         ensures ok { OnOk result (self.new ≡ self.old ++ name ∷ []) }
         ensures err { OnErr result (self.new ≡ self.old) }
     {
-        if self.names.len() >= MOST_NAMES {
-            return Err(AllocError);
-        }
         let Ok(_) = self.names.insert(name.into_parts()) else {
             return Err(AllocError);
         };

@@ -1,4 +1,4 @@
-ghost use Rattle.std.specs.Prelude.{◌≡◌, ℕ, None, IfOk, OnOk, option_map};
+ghost use Rattle.std.specs.Prelude.{◌≡◌, ◌<◌, ◌+◌, ◌^◌, ℕ, None, IfOk, OnOk, length, option_map};
 ghost use Rattle.std.specs.Option.{option_copied, option_to_list};
 ghost use Rattle.lq_objects.specs.Checks.{Checks, with_blocks};
 ghost use Rattle.lq_objects.specs.Directories.{names_in, with_name};
@@ -155,6 +155,7 @@ fn name_fault(kind: Kind, earlier: &NameIndex, name: &Name) -> Option<ObjectsWha
     ensures value { (line : ℕ) → option_map (λ what. record { line = line; what = what }) result
         ≡ name_fault kind earlier.now name.now line }
     ensures absent { result ≡ None → place_of earlier.now name.now ≡ None }
+    ensures few { result ≡ None → length earlier.now + 1 < 2 ^ 32 }
 {
     if lacks_name(kind, name) {
         Some(ObjectsWhat::NoName)

@@ -1,4 +1,4 @@
-ghost use Rattle.std.specs.Prelude.{◌≡◌, None, OnOk};
+ghost use Rattle.std.specs.Prelude.{◌≡◌, ◌<◌, ◌+◌, ◌^◌, None, OnOk, length};
 ghost use Rattle.lq_objects.specs.Directories.{empty, names_in, with_name};
 ghost use Rattle.lq_names.specs.Names.{place_of};
 
@@ -54,7 +54,8 @@ impl Directory {
 
     /// Adds a name that isn't there at the end of its kind.
     pub(crate) fn push(&mut self, kind: Kind, name: Name) -> Result<(), AllocError>
-        requires { place_of (names_in self.old kind) name ≡ None }
+        requires new { place_of (names_in self.old kind) name ≡ None }
+        requires few { length (names_in self.old kind) + 1 < 2 ^ 32 }
         ensures { OnOk result (self.new ≡ with_name self.old kind name) }
     {
         match kind {

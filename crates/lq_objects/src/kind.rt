@@ -1,4 +1,4 @@
-ghost use Rattle.std.specs.Prelude.{◌≡◌};
+ghost use Rattle.std.specs.Prelude.{◌≡◌, ◌<◌, ◌^◌};
 ghost use Rattle.std.specs.Option.{option_map};
 ghost use Rattle.lq_objects.specs.Faults.{has_numbers};
 ghost use Rattle.lq_objects.specs.Kinds.{kind_named, limit, name_directive, reference_directive};
@@ -57,7 +57,8 @@ impl Kind {
 
     /// How many objects of the kind there may be.
     pub(crate) fn limit(self) -> usize
-        ensures { result ≡ limit self }
+        ensures value { result ≡ limit self }
+        ensures small { result < 2 ^ 31 }
     {
         match self {
             Kind::Host | Kind::Contact | Kind::Command => MOST_OBJECTS,

@@ -205,7 +205,7 @@ fn push_new(
     (first, second): (&str, &str),
 ) -> Result<(), AllocError> {
     let name = named(alloc, first, second)?;
-    if index.contains(&name) {
+    if index.contains(&name) || index.len() > 100 {
         return Ok(());
     }
     index.push(name)
