@@ -1,5 +1,5 @@
 -- Items that are found by the set of their names.
-use Rattle.std.proofs.Common.{◌≡◌, ℕ, suc, ◌+◌, ◌<◌, ◌≤◌, ◌&&◌, Bool, true, false, cond, Option, Some, None, List, [], ◌∷◌, IfSome, length, map, nat_lt, not, refl, sym, ap, ◌∙◌, ⊎_elim, true≢false, arith, unwrap_or}
+use Rattle.std.proofs.Common.{◌≡◌, ℕ, suc, ◌+◌, ◌<◌, ◌≤◌, ◌&&◌, Bool, true, false, cond, Option, Some, None, List, [], ◌∷◌, IfSome, length, map, nat_lt, not, refl, ap, ◌∙◌, ⊎_elim, true≢false, arith, unwrap_or}
 use Rattle.std.specs.List.{position, position_or_len, prefix_len}
 use Rattle.std.specs.Option.{is_some}
 use Rattle.std.specs.Prelude.{bytes_eq}

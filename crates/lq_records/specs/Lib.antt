@@ -4,5 +4,6 @@ pub mod Formats
 pub mod Micros
 pub mod Object
 pub mod Places
+pub mod Shares
 pub mod Sound
 pub mod Named

@@ -16,35 +16,39 @@ use std::sync::ArcStr;
 /// The clones of a text share its bytes, and so do its ends, so that a text of which the data has
 /// many is held once.
 pub struct Text {
-    /// Memory that clones share. The empty text has none.
-    whole: Option<ArcStr>,
-    /// How many bytes of that memory stand before the text.
-    from: u32,
+    share: Share,
+}
+
+/// What a text takes its bytes from. The number takes room that stands unused before the memory's
+/// address, so a text has 16 bytes; an `Option` of the memory, with the number after it, has 24.
+#[derive(Drop)]
+enum Share {
+    /// The empty text. It has no memory.
+    Nothing,
+    /// The end of memory that clones share.
+    End {
+        /// How many bytes of that memory stand before the text.
+        from: u32,
+        whole: ArcStr,
+    },
 }
 
 // Written by hand: where one is dropped a proof then meets a call, and not each of the forms.
 impl Drop for Text {
     fn drop(self) {
-        let Text {
-            whole: _whole,
-            from: _from,
-        } = self;
+        let Text { share: _share } = self;
     }
 }
 
 impl Model for Text {
-    ghost use Rattle.std.specs.Arc.{arc_str_bytes};
-    ghost use Rattle.std.specs.Option.{option_map_or};
-    ghost use Rattle.std.specs.Prelude.{IfSome, List, [], drop, ℕ};
-    ghost use Rattle.std.specs.Str.{IsCharBoundary};
+    ghost use Rattle.std.specs.Prelude.{List, ℕ};
+    ghost use Rattle.lq_records.specs.Shares.{IsShare, bytes_of_share};
 
     ghost Value = { List ℕ };
 
-    ghost view = { λ text.
-        option_map_or (λ whole. drop text.from (arc_str_bytes whole)) text.whole [] };
+    ghost view = { λ text. bytes_of_share text.share };
 
-    ghost invariant = { λ text.
-        IfSome text.whole (λ whole. IsCharBoundary (arc_str_bytes whole) text.from) };
+    ghost invariant = { λ text. IsShare text.share };
 }
 
 /// The most bytes that may stand before an end.
@@ -56,8 +60,7 @@ impl Text {
         ensures { result ≡ [] }
     {
         Text {
-            whole: None,
-            from: 0,
+            share: Share::Nothing,
         }
     }
 
@@ -85,8 +88,7 @@ impl Text {
         // Tells the proof that the bytes are UTF-8, so that a character begins at the front.
         let _ = whole.as_str();
         Text {
-            whole: Some(whole),
-            from: 0,
+            share: Share::End { from: 0, whole },
         }
     }
 
@@ -95,13 +97,15 @@ impl Text {
     pub fn with_end(&self, alloc: Global, end: &str) -> Result<Self, Memory>
         ensures { IfOk result (λ text. text ≡ end.now) }
     {
-        let Some(whole) = &self.whole else {
+        let Share::End { whole, .. } = &self.share else {
             return Text::new(alloc, end);
         };
         match end_at(whole.as_str(), end) {
             Some(from) => Ok(Text {
-                whole: Some(whole.clone()?),
-                from,
+                share: Share::End {
+                    from,
+                    whole: whole.clone()?,
+                },
             }),
             None => Text::new(alloc, end),
         }
@@ -111,9 +115,9 @@ impl Text {
     pub fn as_str(&self) -> &str
         ensures { result.now ≡ self.now }
     {
-        match &self.whole {
-            Some(whole) => &whole.as_str()[self.from as usize..],
-            None => "",
+        match &self.share {
+            Share::End { from, whole } => &whole.as_str()[*from as usize..],
+            Share::Nothing => "",
         }
     }
 }
@@ -140,14 +144,14 @@ impl Clone for Text {
 
     /// The same text, which shares its bytes with this one. The only error is that memory runs out.
     fn clone(&self) -> Result<Self, AllocError> {
-        let whole = match &self.whole {
-            Some(whole) => Some(whole.clone()?),
-            None => None,
+        let share = match &self.share {
+            Share::End { from, whole } => Share::End {
+                from: *from,
+                whole: whole.clone()?,
+            },
+            Share::Nothing => Share::Nothing,
         };
-        Ok(Text {
-            whole,
-            from: self.from,
-        })
+        Ok(Text { share })
     }
 }
 
