@@ -1,5 +1,5 @@
 -- The commands, and what each does with its fields.
-use Rattle.std.specs.Prelude.{ℕ, Option, Some, None, List, [], ◌∷◌, find, bytes_eq, codes}
+use Rattle.std.specs.Prelude.{ℕ, Option, Some, None, List, [], ◌∷◌, ◌++◌, find, bytes_eq, codes}
 use Rattle.std.specs.Option.{option_and_then, option_map, unwrap_or}
 use Rattle.lq_records.specs.declared.base.Base.{Base}
 use Rattle.lq_records.specs.declared.ids.HostId.{HostId}
@@ -89,21 +89,26 @@ without_fields act fields = Some act
 
 -- ---- the table
 
--- each command's word, with what it reads of the fields after it
-abbrev pub commands : List (List ℕ × (Fields → Option Act))
-commands =
+-- A command's word, with what it reads of the fields after it. These have texts among their fields,
+abbrev pub text_commands : List (List ℕ × (Fields → Option Act))
+text_commands =
     (codes "PROCESS_HOST_CHECK_RESULT", check_result kind.Host)
     ∷ (codes "PROCESS_SERVICE_CHECK_RESULT", check_result kind.Service)
     ∷ (codes "ADD_HOST_COMMENT", comment kind.Host)
     ∷ (codes "ADD_SVC_COMMENT", comment kind.Service)
-    ∷ (codes "DEL_HOST_COMMENT", of_number act.DelHostComment)
-    ∷ (codes "DEL_SVC_COMMENT", of_number act.DelSvcComment)
     ∷ (codes "ACKNOWLEDGE_HOST_PROBLEM", acknowledgement kind.Host)
     ∷ (codes "ACKNOWLEDGE_SVC_PROBLEM", acknowledgement kind.Service)
-    ∷ (codes "REMOVE_HOST_ACKNOWLEDGEMENT", of_host act.RemoveHostAcknowledgement)
-    ∷ (codes "REMOVE_SVC_ACKNOWLEDGEMENT", of_service act.RemoveSvcAcknowledgement)
     ∷ (codes "SCHEDULE_HOST_DOWNTIME", downtime kind.Host)
     ∷ (codes "SCHEDULE_SVC_DOWNTIME", downtime kind.Service)
+    ∷ []
+
+-- and these have a number or the name of an object, or no field.
+abbrev pub short_commands : List (List ℕ × (Fields → Option Act))
+short_commands =
+    (codes "DEL_HOST_COMMENT", of_number act.DelHostComment)
+    ∷ (codes "DEL_SVC_COMMENT", of_number act.DelSvcComment)
+    ∷ (codes "REMOVE_HOST_ACKNOWLEDGEMENT", of_host act.RemoveHostAcknowledgement)
+    ∷ (codes "REMOVE_SVC_ACKNOWLEDGEMENT", of_service act.RemoveSvcAcknowledgement)
     ∷ (codes "DEL_HOST_DOWNTIME", of_number act.DelHostDowntime)
     ∷ (codes "DEL_SVC_DOWNTIME", of_number act.DelSvcDowntime)
     ∷ (codes "ENABLE_HOST_NOTIFICATIONS", of_host act.EnableHostNotifications)
@@ -114,15 +119,24 @@ commands =
     ∷ (codes "DISABLE_NOTIFICATIONS", without_fields act.DisableNotifications)
     ∷ []
 
--- what the command that has a word reads; None where no command has it
-abbrev pub command_named : List ℕ → Option (Fields → Option Act)
-command_named word = option_map (λ row. row.1) (find (λ row. bytes_eq word row.0) commands)
+abbrev pub commands : List (List ℕ × (Fields → Option Act))
+commands = text_commands ++ short_commands
+
+-- what the one of some commands that has a word reads; None where none has it
+abbrev pub command_named :
+    List (List ℕ × (Fields → Option Act)) → List ℕ → Option (Fields → Option Act)
+command_named rows word = option_map (λ row. row.1) (find (λ row. bytes_eq word row.0) rows)
 
 -- ---- what a command does
 
 -- by its word and the fields after it; None where no command has the word, or a field is faulty
 unfoldable pub act_by : List ℕ → Fields → Option Act
-act_by word fields = option_and_then (λ command. command fields) (command_named word)
+act_by word fields = option_and_then (λ command. command fields) (command_named commands word)
+
+-- the same of the commands without texts alone
+unfoldable pub short_act_by : List ℕ → Fields → Option Act
+short_act_by word fields =
+    option_and_then (λ command. command fields) (command_named short_commands word)
 
 unfoldable pub act_in : Fields → Option Act
 act_in fields = option_and_then (λ word. act_by word (later fields)) (field fields)

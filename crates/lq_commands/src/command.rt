@@ -1,7 +1,7 @@
 ghost use Rattle.std.specs.Prelude.{◌≡◌, IfOk};
 ghost use Rattle.lq_commands.specs.Commands.{acknowledgement, acknowledgement_act, act_by, act_in};
 ghost use Rattle.lq_commands.specs.Commands.{act_of, check_result, check_result_act, comment};
-ghost use Rattle.lq_commands.specs.Commands.{comment_act, downtime, downtime_act};
+ghost use Rattle.lq_commands.specs.Commands.{comment_act, downtime, downtime_act, short_act_by};
 ghost use Rattle.lq_commands.specs.Reading.{GivesValue};
 
 use crate::field::{FieldErr, Fields};
@@ -33,26 +33,37 @@ fn act_in(fields: &mut Fields) -> Result<Act, FieldErr>
 }
 
 /// What a command does, by its word and the fields after it.
-#[tactic(auto, unfolding(crate::specs::Commands::act_by))]
+#[tactic(auto, unfolding(crate::specs::Commands::act_by, crate::specs::Commands::short_act_by))]
 fn act_by(word: &str, rest: &mut Fields) -> Result<Act, FieldErr>
     ensures { GivesValue result (act_by word.now rest.old) }
 {
     use ObjectKind::{Host, Service};
+    match word {
+        "PROCESS_HOST_CHECK_RESULT" => check_result(Host, rest),
+        "PROCESS_SERVICE_CHECK_RESULT" => check_result(Service, rest),
+        "ADD_HOST_COMMENT" => comment(Host, rest),
+        "ADD_SVC_COMMENT" => comment(Service, rest),
+        "ACKNOWLEDGE_HOST_PROBLEM" => acknowledgement(Host, rest),
+        "ACKNOWLEDGE_SVC_PROBLEM" => acknowledgement(Service, rest),
+        "SCHEDULE_HOST_DOWNTIME" => downtime(Host, rest),
+        "SCHEDULE_SVC_DOWNTIME" => downtime(Service, rest),
+        _ => short_act_by(word, rest),
+    }
+}
+
+/// What a command does that reads no more than a number or the name of an object, by its word and
+/// the fields after it.
+#[tactic(auto, unfolding(crate::specs::Commands::short_act_by))]
+fn short_act_by(word: &str, rest: &mut Fields) -> Result<Act, FieldErr>
+    ensures { GivesValue result (short_act_by word.now rest.old) }
+{
     Ok(match word {
-        "PROCESS_HOST_CHECK_RESULT" => check_result(Host, rest)?,
-        "PROCESS_SERVICE_CHECK_RESULT" => check_result(Service, rest)?,
-        "ADD_HOST_COMMENT" => comment(Host, rest)?,
-        "ADD_SVC_COMMENT" => comment(Service, rest)?,
         "DEL_HOST_COMMENT" => Act::DelHostComment { id: rest.number()? },
         "DEL_SVC_COMMENT" => Act::DelSvcComment { id: rest.number()? },
-        "ACKNOWLEDGE_HOST_PROBLEM" => acknowledgement(Host, rest)?,
-        "ACKNOWLEDGE_SVC_PROBLEM" => acknowledgement(Service, rest)?,
         "REMOVE_HOST_ACKNOWLEDGEMENT" => Act::RemoveHostAcknowledgement { host: rest.host()? },
         "REMOVE_SVC_ACKNOWLEDGEMENT" => Act::RemoveSvcAcknowledgement {
             service: rest.service()?,
         },
-        "SCHEDULE_HOST_DOWNTIME" => downtime(Host, rest)?,
-        "SCHEDULE_SVC_DOWNTIME" => downtime(Service, rest)?,
         "DEL_HOST_DOWNTIME" => Act::DelHostDowntime { id: rest.number()? },
         "DEL_SVC_DOWNTIME" => Act::DelSvcDowntime { id: rest.number()? },
         "ENABLE_HOST_NOTIFICATIONS" => Act::EnableHostNotifications { host: rest.host()? },

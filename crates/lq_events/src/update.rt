@@ -2,7 +2,7 @@ use lq_records::{HostId, ServiceId, Text};
 
 /// What an external command does. Each variant is named by the command's words and has its fields
 /// in order. Seconds are counted from the beginning of 1970.
-#[derive(Clone, Drop)]
+#[derive(Drop)]
 pub enum Act {
     ProcessHostCheckResult {
         host: HostId,
@@ -99,7 +99,7 @@ pub enum Act {
 }
 
 /// An external command that was taken, with its place among the others.
-#[derive(Clone, Drop)]
+#[derive(Drop)]
 pub struct Update {
     /// Who took it.
     pub origin: u32,

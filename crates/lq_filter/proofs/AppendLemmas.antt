@@ -8,7 +8,7 @@ use Rattle.lq_filter.specs.Trees.{HaveTrees, first_negated, height, tree_count, 
 use Rattle.lq_filter.specs.declared.header.Header.{Header}
 use Rattle.lq_filter.specs.declared.header.Header.TheVariants as header
 use Rattle.lq_filter.specs.declared.read.Test.{Test}
-use Rattle.lq_filter.proofs.TreeLemmas.{length-truths, same_tree, whole_truths}
+use Rattle.lq_filter.proofs.TreeLemmas.{length-truths, same_tree}
 
 -- ---- headers from the last one back: those that come later stand first
 

@@ -3,7 +3,7 @@ ghost use Rattle.lq_filter.specs.Reading.{operator_of};
 
 /// How a test compares a cell's value with the value behind the operator. What an operator says
 /// goes by the kind of the column.
-#[derive(Clone, Copy, PartialEq, Eq)]
+#[derive(Clone, Copy)]
 pub enum Operator {
     /// `=`
     Equal,

@@ -23,7 +23,7 @@ pub struct Test {
 }
 
 /// Why a test isn't read.
-#[derive(Debug, Drop, PartialEq, Eq)]
+#[derive(Drop)]
 pub enum TestErr {
     /// There is no such operator.
     Operator,

@@ -35,7 +35,7 @@ impl Model for Stack {
 }
 
 /// Why a header isn't added.
-#[derive(Debug, Drop, PartialEq, Eq)]
+#[derive(Drop)]
 pub enum StackErr {
     /// It wants more filters than stand, or none.
     TooShort,

@@ -81,49 +81,19 @@ impl LiveState {
 fn copy_of_statuses(alloc: Global, statuses: &[Status]) -> Result<Vec<Status>, Memory>
     ensures { IfOk result (λ copy. copy.items ≡ statuses.now) }
 {
-    let mut copy = Vec::with_capacity(alloc, statuses.len())?;
-    for status in statuses {
-        copy.push(copy_of_status(status)?)?;
-    }
-    Ok(copy)
+    statuses.to_vec(alloc)
 }
 
 fn copy_of_downtimes(alloc: Global, downtimes: &[Downtime]) -> Result<Vec<Downtime>, Memory>
     ensures { IfOk result (λ copy. copy.items ≡ downtimes.now) }
 {
-    let mut copy = Vec::with_capacity(alloc, downtimes.len())?;
-    for downtime in downtimes {
-        copy.push(copy_of_downtime(downtime)?)?;
-    }
-    Ok(copy)
+    downtimes.to_vec(alloc)
 }
 
 fn copy_of_comments(alloc: Global, comments: &[Comment]) -> Result<Vec<Comment>, Memory>
     ensures { IfOk result (λ copy. copy.items ≡ comments.now) }
 {
-    let mut copy = Vec::with_capacity(alloc, comments.len())?;
-    for comment in comments {
-        copy.push(copy_of_comment(comment)?)?;
-    }
-    Ok(copy)
-}
-
-fn copy_of_status(status: &Status) -> Result<Status, Memory>
-    ensures { IfOk result (λ copy. copy ≡ status.now) }
-{
-    status.clone()
-}
-
-fn copy_of_downtime(downtime: &Downtime) -> Result<Downtime, Memory>
-    ensures { IfOk result (λ copy. copy ≡ downtime.now) }
-{
-    downtime.clone()
-}
-
-fn copy_of_comment(comment: &Comment) -> Result<Comment, Memory>
-    ensures { IfOk result (λ copy. copy ≡ comment.now) }
-{
-    comment.clone()
+    comments.to_vec(alloc)
 }
 
 /// Replaces the status at a place, where there is one.

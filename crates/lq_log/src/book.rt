@@ -89,12 +89,8 @@ impl LogBook {
         ensures entries { IfOk result (λ copy. copy.entries ≡ self.now.entries) }
         ensures skipped { IfOk result (λ copy. copy.skipped ≡ self.now.skipped) }
     {
-        let mut entries = Vec::with_capacity(alloc, self.entries.len())?;
-        for entry in &self.entries {
-            entries.push(copy_of(entry)?)?;
-        }
         Ok(LogBook {
-            entries,
+            entries: copy_of(alloc, &self.entries)?,
             skipped: self.skipped,
         })
     }
@@ -195,9 +191,9 @@ impl LogBook {
     }
 }
 
-/// The same entry, which shares its texts with this one.
-fn copy_of(entry: &LogEntry) -> Result<LogEntry, Memory>
-    ensures { IfOk result (λ copy. copy ≡ entry.now) }
+/// The same entries, which share their texts with these.
+fn copy_of(alloc: Global, entries: &[LogEntry]) -> Result<Vec<LogEntry>, Memory>
+    ensures { IfOk result (λ copy. copy.items ≡ entries.now) }
 {
-    entry.clone()
+    entries.to_vec(alloc)
 }

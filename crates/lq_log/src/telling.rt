@@ -77,9 +77,11 @@ pub fn object_of(base: &Base, entry: &LogEntry) -> Option<Object>
 pub fn is_flapping(base: &Base, log: &[LogEntry], about: Object) -> bool
     ensures { result ≡ is_flapping base.now log.now about }
 {
-    log.iter().fold(false, |known, entry| {
-        flapping_told(base, about, entry).unwrap_or(known)
-    })
+    let mut known = false;
+    for entry in log {
+        known = flapping_told(base, about, entry).unwrap_or(known);
+    }
+    known
 }
 
 /// What a line tells of an object's flapping.
@@ -100,10 +102,11 @@ fn flapping_told(base: &Base, about: Object, entry: &LogEntry) -> Option<bool>
 pub fn is_period_on(log: &[LogEntry], name: &str) -> bool
     ensures { result ≡ is_period_on log.now name.now }
 {
-    log.iter().fold(
-        true,
-        |known, entry| period_told(name, entry).unwrap_or(known),
-    )
+    let mut known = true;
+    for entry in log {
+        known = period_told(name, entry).unwrap_or(known);
+    }
+    known
 }
 
 /// What a line tells of the period with a name.

@@ -1,7 +1,7 @@
 use std::alloc::AllocError;
 
 /// Why a body isn't written on.
-#[derive(Debug, Drop, PartialEq, Eq)]
+#[derive(Drop)]
 pub enum WriteErr {
     /// The body would have more than `BODY_LIMIT` bytes.
     TooLarge,

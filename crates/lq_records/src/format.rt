@@ -1,5 +1,5 @@
 /// The format of a reply's body.
-#[derive(Clone, Copy, Debug, PartialEq, Eq)]
+#[derive(Clone, Copy)]
 pub enum Format {
     /// `csv`: separators of one byte, and nothing quoted.
     Csv,
@@ -10,7 +10,7 @@ pub enum Format {
 }
 
 /// The separators of the format `csv`, each one byte. No other format has them.
-#[derive(Clone, Copy, Debug, PartialEq, Eq)]
+#[derive(Clone, Copy)]
 pub struct Separators {
     /// What ends a line.
     pub row: u8,

@@ -6,7 +6,7 @@ use std::hash::{Hash, Hasher};
 use std::marker::Model;
 
 /// A list in a field of the data. Contracts see it as the list of its items.
-#[derive(Debug, Drop)]
+#[derive(Drop)]
 pub struct Items<T> {
     inner: Vec<T>,
 }

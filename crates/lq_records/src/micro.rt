@@ -4,7 +4,7 @@ ghost use Rattle.lq_records.specs.Micros.{quotient};
 use std::fmt::{self, Display};
 
 /// A number in millionths.
-#[derive(Clone, Copy, Debug, PartialEq, Eq)]
+#[derive(Clone, Copy)]
 pub struct Micro {
     /// How many millionths it is.
     pub millionths: i128,

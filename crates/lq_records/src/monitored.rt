@@ -303,10 +303,12 @@ impl Gathered {
 fn hint_of(fields: &ObjectFields) -> usize
     ensures { result < HINTS }
 {
-    let contacts = fields.contacts.as_slice().iter().map(|id| id.0);
-    let groups = fields.contact_groups.as_slice().iter().map(|id| id.0);
-    let mixed = contacts
-        .chain(groups)
-        .fold(0_u32, |mixed, id| mixed.wrapping_mul(31).wrapping_add(id));
+    let mut mixed = 0_u32;
+    for id in fields.contacts.as_slice() {
+        mixed = mixed.wrapping_mul(31).wrapping_add(id.0);
+    }
+    for id in fields.contact_groups.as_slice() {
+        mixed = mixed.wrapping_mul(31).wrapping_add(id.0);
+    }
     mixed as usize % HINTS
 }

@@ -1,7 +1,7 @@
 use crate::text::Text;
 
 /// Why a message isn't answered as a query.
-#[derive(Debug, Drop)]
+#[derive(Drop)]
 pub struct Refusal {
     /// The code of the reply, from 100 to 999.
     pub code: u16,

@@ -5,8 +5,6 @@ ghost use Rattle.std.specs.Str.{IsCharBoundary};
 use crate::Memory;
 use std::alloc::{AllocError, Global};
 use std::cmp::Ordering;
-use std::fmt;
-use std::fmt::{Debug, Formatter, Write};
 use std::hash::{Hash, Hasher};
 use std::marker::Model;
 use std::sync::ArcStr;
@@ -152,13 +150,6 @@ impl Clone for Text {
             Share::Nothing => Share::Nothing,
         };
         Ok(Text { share })
-    }
-}
-
-impl Debug for Text {
-    fn fmt<W: Write>(&self, f: &mut Formatter<W>) -> fmt::Result {
-        let text = self.as_str();
-        Debug::fmt(&text, f)
     }
 }
 

@@ -90,7 +90,7 @@ impl Drop for Request {
 }
 
 /// Why a message gives no request.
-#[derive(Debug, Drop)]
+#[derive(Drop)]
 pub enum ReadErr {
     /// The message is refused; the reply is this refusal, in the style of the message.
     Refused {

@@ -22,7 +22,7 @@ use crate::service_group::ServiceGroupColumn;
 use crate::slice::SliceColumn;
 
 /// A table that a query may ask for.
-#[derive(Clone, Copy, PartialEq, Eq)]
+#[derive(Clone, Copy)]
 pub enum Table {
     /// `hosts`, with a row for each host.
     Hosts,
@@ -61,7 +61,7 @@ pub enum Table {
 }
 
 /// What a row, or a part of it, is about.
-#[derive(Clone, Copy, PartialEq, Eq)]
+#[derive(Clone, Copy)]
 pub enum Subject {
     Host,
     Service,
@@ -80,7 +80,7 @@ pub enum Subject {
 }
 
 /// A column by what it is about.
-#[derive(Clone, Copy, PartialEq, Eq)]
+#[derive(Clone, Copy)]
 pub enum OwnColumn {
     Host(HostColumn),
     Service(ServiceColumn),
@@ -99,7 +99,7 @@ pub enum OwnColumn {
 }
 
 /// What stands before the names of joined columns.
-#[derive(Clone, Copy, PartialEq, Eq)]
+#[derive(Clone, Copy)]
 pub enum Prefix {
     /// Nothing: the columns are the table's own.
     Own,
@@ -120,14 +120,14 @@ pub enum Prefix {
 }
 
 /// Columns of a table that belong together: all columns of a subject, after a prefix.
-#[derive(Clone, Copy, PartialEq, Eq)]
+#[derive(Clone, Copy)]
 pub struct Part {
     pub prefix: Prefix,
     pub subject: Subject,
 }
 
 /// A column of a table.
-#[derive(Clone, Copy, PartialEq, Eq)]
+#[derive(Clone, Copy)]
 pub struct Col {
     /// What stands before its name.
     pub prefix: Prefix,
@@ -152,7 +152,7 @@ pub enum ColKind {
 
 /// The name by which a query asks for a column, in two parts: what it is joined by, and its own
 /// name.
-#[derive(Clone, Copy, PartialEq, Eq)]
+#[derive(Clone, Copy)]
 pub struct Name {
     /// Empty for a column of the table's own.
     pub prefix: &'static str,

@@ -5,7 +5,7 @@ use crate::columns::ColKind;
 use crate::heading::Heading;
 
 /// A column on a downtime.
-#[derive(Clone, Copy, PartialEq, Eq)]
+#[derive(Clone, Copy)]
 pub enum DowntimeColumn {
     Id,
     Author,

@@ -9,7 +9,7 @@ use crate::service_counter::ServiceCounter;
 use crate::status::StatusColumn;
 
 /// A column on a host.
-#[derive(Clone, Copy, PartialEq, Eq)]
+#[derive(Clone, Copy)]
 pub enum HostColumn {
     Name,
     Alias,

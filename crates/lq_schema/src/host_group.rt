@@ -8,7 +8,7 @@ use crate::host_counter::HostCounter;
 use crate::service_counter::ServiceCounter;
 
 /// A column on a group of hosts.
-#[derive(Clone, Copy, PartialEq, Eq)]
+#[derive(Clone, Copy)]
 pub enum HostGroupColumn {
     Name,
     Alias,

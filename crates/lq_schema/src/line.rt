@@ -5,7 +5,7 @@ use crate::columns::ColKind;
 use crate::heading::Heading;
 
 /// A column on a line of the log.
-#[derive(Clone, Copy, PartialEq, Eq)]
+#[derive(Clone, Copy)]
 pub enum LineColumn {
     Time,
     Class,

@@ -5,7 +5,7 @@ use crate::columns::ColKind;
 use crate::heading::Heading;
 
 /// A column on the program as a whole.
-#[derive(Clone, Copy, PartialEq, Eq)]
+#[derive(Clone, Copy)]
 pub enum ProgramColumn {
     ProgramVersion,
     EnableNotifications,

@@ -8,7 +8,7 @@ use crate::object::ObjectColumn;
 use crate::status::StatusColumn;
 
 /// A column on a service.
-#[derive(Clone, Copy, PartialEq, Eq)]
+#[derive(Clone, Copy)]
 pub enum ServiceColumn {
     Description,
     Object(ObjectColumn),

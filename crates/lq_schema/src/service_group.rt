@@ -7,7 +7,7 @@ use crate::heading::Heading;
 use crate::service_counter::ServiceCounter;
 
 /// A column on a group of services.
-#[derive(Clone, Copy, PartialEq, Eq)]
+#[derive(Clone, Copy)]
 pub enum ServiceGroupColumn {
     Name,
     Alias,

@@ -5,7 +5,7 @@ use crate::columns::ColKind;
 use crate::heading::Heading;
 
 /// A column on a slice of an object's history: a time in which nothing of it changed.
-#[derive(Clone, Copy, PartialEq, Eq)]
+#[derive(Clone, Copy)]
 pub enum SliceColumn {
     /// The second at which the slice begins, as `from`.
     Time,

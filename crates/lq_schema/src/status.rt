@@ -5,7 +5,7 @@ use crate::columns::ColKind;
 use crate::heading::Heading;
 
 /// A column on the status of a host or a service.
-#[derive(Clone, Copy, PartialEq, Eq)]
+#[derive(Clone, Copy)]
 pub enum StatusColumn {
     State,
     StateType,

@@ -39,7 +39,7 @@ const PIECE: usize = 65_536;
 const OUT_OF_MEMORY: &[u8] = b"500          14\nout of memory\n";
 
 /// Why a connection breaks off.
-#[derive(Clone, Copy, Debug, PartialEq, Eq)]
+#[derive(Clone, Copy)]
 pub enum ServeErr {
     /// A read failed.
     Read,

@@ -36,7 +36,7 @@ pub struct Slice {
 }
 
 /// Why there is no history.
-#[derive(Debug, Drop)]
+#[derive(Drop)]
 pub enum HistErr {
     /// It would have more than 1,000,000 slices.
     TooMany,

@@ -1,5 +1,5 @@
 /// What a row adds to a statistic.
-#[derive(Clone, Copy, Debug, PartialEq, Eq)]
+#[derive(Clone, Copy)]
 pub enum StatCell {
     /// For `StatKind::Count`: whether the row is counted.
     Counted(bool),

@@ -1,5 +1,5 @@
 /// What a statistic says of the rows of a group.
-#[derive(Clone, Copy, Debug, PartialEq, Eq)]
+#[derive(Clone, Copy)]
 pub enum StatKind {
     /// How many rows a filter chooses.
     Count,

@@ -1,7 +1,7 @@
 use std::alloc::AllocError;
 
 /// Why there are no rows.
-#[derive(Debug, Drop)]
+#[derive(Drop)]
 pub enum RowsErr {
     /// They would be more than 1,000,000 slices of histories.
     TooMany,
