@@ -7,7 +7,7 @@ use std::fmt::{self, Display, Formatter, Write};
 use thiserror::Error;
 
 /// What is wrong in a line of the object file.
-#[derive(Clone, Copy, Debug)]
+#[derive(Clone, Copy, Debug, PartialEq, Eq)]
 pub enum ObjectsWhat {
     /// A line outside a block that opens none.
     Stray,
@@ -72,7 +72,7 @@ pub enum ObjectsErr {
 
 /// The first fault of an object file, as contracts speak of it: the number of its line, from 1, and
 /// what is wrong there.
-#[derive(Clone, Copy)]
+#[derive(Clone, Copy, PartialEq, Eq)]
 pub struct Fault {
     pub line: u64,
     pub what: ObjectsWhat,

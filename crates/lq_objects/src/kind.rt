@@ -17,7 +17,7 @@ const MOST_SERVICES: usize = 60_000;
 const MOST_GROUPS: usize = 1_000;
 
 /// A kind of object that a block may be about.
-#[derive(Clone, Copy)]
+#[derive(Clone, Copy, PartialEq, Eq)]
 pub(crate) enum Kind {
     Host,
     Service,
@@ -149,7 +149,7 @@ const CONTACT_GROUP_REFERENCES: [Reference; 1] = [Reference::MemberContacts];
 const NO_REFERENCES: [Reference; 0] = [];
 
 /// A directive that names other objects.
-#[derive(Clone, Copy)]
+#[derive(Clone, Copy, PartialEq, Eq)]
 pub(crate) enum Reference {
     /// A host's parents.
     Parents,
