@@ -26,6 +26,7 @@ use lq_text::next_line;
 use std::alloc::{AllocError, Global};
 
 /// What a query asks.
+#[derive(Drop)]
 pub struct Request {
     /// The table that is asked.
     pub table: Table,
@@ -65,28 +66,6 @@ pub struct Request {
     pub until: Option<u64>,
     /// The names that rows have to have. For now there are none.
     pub names: Names,
-}
-
-// Written by hand: where one is dropped a proof then meets a call, and not each of the fields.
-impl Drop for Request {
-    fn drop(self) {
-        let Request {
-            table: _table,
-            columns: _columns,
-            head: _head,
-            filter: _filter,
-            stats: _stats,
-            limit: _limit,
-            format: _format,
-            separators: _separators,
-            fixed16: _fixed16,
-            keep: _keep,
-            user: _user,
-            from: _from,
-            until: _until,
-            names: _names,
-        } = self;
-    }
 }
 
 /// Why a message gives no request.
