@@ -1,4 +1,5 @@
 pub mod BookLemmas
+pub mod FormLemmas
 pub mod LineLemmas
 pub mod LogLemmas
 pub mod NumberLemmas

@@ -40,7 +40,7 @@ more_digits n digits large says =
       all = list_all-append is_ascii_digit digits ((48 + n % 10) ∷ []) ∙ and_from _ _ says.all last;
     }
 
-decimal_says : (n : ℕ) → n < 2 ^ 64 → Says n (decimal n)
+pub decimal_says : (n : ℕ) → n < 2 ^ 64 → Says n (decimal n)
 decimal_says n small = decimal_by_steps Says one_digit more_digits n small
 
 -- ---- a line

@@ -4,6 +4,7 @@ pub mod Fields
 pub mod Forms
 pub mod LastTold
 pub mod Log
+pub mod Said
 pub mod Told
 pub mod Types
 pub mod Written

@@ -1,16 +1,21 @@
-ghost use Rattle.std.specs.Prelude.{◌≡◌, ◌<◌, ◌++◌, IfOk, OnOk, Some, codes, string_bytes};
+ghost use Rattle.std.specs.Prelude.{◌≡◌, ◌<◌, ◌++◌, IfOk, OnOk, Some, codes, string_bytes, true};
 ghost use Rattle.std.specs.Fmt.{decimal};
-ghost use Rattle.lq_log.specs.Entries.{IsOfLine, entry_of};
+ghost use Rattle.lq_log.specs.Entries.{IsOfLine, blank, entry_of, entry_of_text};
 ghost use Rattle.lq_log.specs.Book.{time_limit};
+ghost use Rattle.lq_log.specs.Fields.{has_semicolon};
+ghost use Rattle.lq_log.specs.Said.{kind_of_alert, downtime_comment, kind_of_downtime, downtime_word};
+ghost use Rattle.lq_log.specs.Said.{host_comment, is_plain_object, is_plain_result};
+ghost use Rattle.lq_log.specs.Said.{says_own_fields, service_comment};
 ghost use Rattle.lq_log.specs.Written.{alert_name, downtime_fields, downtime_name, form_text};
-ghost use Rattle.lq_log.specs.Written.{host_downtime, next_field, object_text, service_downtime};
-ghost use Rattle.lq_log.specs.Written.{line_at_second, state_word, type_word, entry_of_form};
+ghost use Rattle.lq_log.specs.Written.{entry_of_form, line_at_second, next_field, object_text};
+ghost use Rattle.lq_log.specs.Written.{state_word, type_word};
 
-use crate::read::entry_of_text;
+use crate::class::{ALERT, COMMAND};
+use crate::read::{blank, entry_of_text};
 use crate::texts::Texts;
 use crate::words::{host_state_name, service_state_name};
 use itoa::Buffer;
-use lq_events::LogEntry;
+use lq_events::{Kind, LogEntry};
 use lq_records::{Memory, Text};
 use std::alloc::Global;
 
@@ -23,6 +28,9 @@ const EXTERNAL_BYTES: usize = 18;
 
 /// Room for what stands before the output of an alert, where names are no longer than most are.
 const ALERT_BYTES: usize = 128;
+
+/// An attempt below it has 9 digits at most, and reads as one.
+const ATTEMPT_LIMIT: u32 = 1_000_000_000;
 
 /// What happens to a downtime.
 #[derive(Clone, Copy)]
@@ -66,9 +74,11 @@ pub enum Form {
 }
 
 /// The entry of a line that the program writes at a second, which is counted from the beginning of
-/// 1970. Its message is the line with that second in brackets, and the rest is what the line's
-/// text says. The text is read for it, as it need not say the form's own fields: a host's name with
-/// a `;` reads as two fields. A second below `TIME_LIMIT` has at most 12 digits, so that
+/// 1970. Its message is the line with that second in brackets, and the rest is what the line's text
+/// says. Of a command, and of an alert or a downtime whose names have no `;`, that is what the form
+/// says, and the entry is made of it at once; an alert also has to have a state with a name and an
+/// attempt of 9 digits at most. Any other text is read back, since it says something else: a host's
+/// name with a `;` reads as two fields. A second below `TIME_LIMIT` has at most 12 digits, so that
 /// `read_line` gives the same entry of the line. The only error is running out of memory.
 pub fn make_line(alloc: Global, time: u64, form: &Form) -> Result<LogEntry, Memory>
     ensures made { IfOk result (λ entry. entry ≡ entry_of_form time form.now) }
@@ -78,12 +88,111 @@ pub fn make_line(alloc: Global, time: u64, form: &Form) -> Result<LogEntry, Memo
 {
     let text = form_text(alloc, form)?;
     let message = line_at_second(alloc, time, text.as_str())?;
-    let mut texts = Texts::of_a_line(alloc);
-    texts.begin(&message)?;
-    let mut entry = entry_of_text(&mut texts, text.as_str())?;
+    let mut entry = if says_own_fields(form) {
+        entry_of_own_fields(alloc, form, &message)?
+    } else {
+        entry_read_back(alloc, text.as_str(), &message)?
+    };
     entry.time = time;
     entry.message = message;
     Ok(entry)
+}
+
+/// Whether the text of a form says the form's own fields, so that it need not be read back.
+fn says_own_fields(form: &Form) -> bool
+    ensures { result ≡ says_own_fields form.now }
+{
+    match form {
+        Form::External { .. } => true,
+        Form::Alert {
+            host,
+            service,
+            state,
+            attempt,
+            ..
+        } => {
+            let service = service.as_str();
+            is_plain_object(host.as_str(), service) && is_plain_result(service, *state, *attempt)
+        }
+        Form::Downtime { host, service, .. } => is_plain_object(host.as_str(), service.as_str()),
+    }
+}
+
+/// Whether a host's name and a service's description read as one field each.
+fn is_plain_object(host: &str, service: &str) -> bool
+    ensures { result ≡ is_plain_object host.now service.now }
+{
+    !has_semicolon(host) && !has_semicolon(service)
+}
+
+/// Whether a state and an attempt read as such.
+fn is_plain_result(service: &str, state: i64, attempt: u32) -> bool
+    ensures { result ≡ is_plain_result service.now state attempt }
+{
+    !state_word(service, state).is_empty() && attempt < ATTEMPT_LIMIT
+}
+
+fn has_semicolon(text: &str) -> bool
+    ensures { result ≡ has_semicolon text.now }
+{
+    text.as_bytes().contains(&b';')
+}
+
+/// The entry of a form whose text says the form's own fields, without its time and its message.
+fn entry_of_own_fields(alloc: Global, form: &Form, message: &Text) -> Result<LogEntry, Memory>
+    requires { says_own_fields form.now ≡ true }
+    ensures { IfOk result (λ entry. entry ≡ entry_of_text (form_text form.now)) }
+{
+    match form {
+        Form::External { .. } => Ok(blank(COMMAND, Kind::ExternalCommand)),
+        Form::Alert {
+            host,
+            service,
+            state,
+            hard,
+            attempt,
+            output,
+        } => {
+            let mut entry = entry_of_object(kind_of_alert(service.as_str()), host, service)?;
+            entry.state = *state;
+            entry.word = Text::new(alloc, type_word(*hard))?;
+            entry.attempt = *attempt;
+            entry.output = output.clone()?;
+            Ok(entry)
+        }
+        Form::Downtime {
+            host,
+            service,
+            change,
+        } => {
+            let mut entry = entry_of_object(kind_of_downtime(service.as_str()), host, service)?;
+            entry.word = Text::new(alloc, downtime_word(*change))?;
+            // It is the end of the line, and shares its bytes.
+            entry.comment = message.with_end(alloc, downtime_comment(service.as_str(), *change))?;
+            Ok(entry)
+        }
+    }
+}
+
+/// An entry of an alert or a downtime that says no more than its kind, its host and its service.
+fn entry_of_object(kind: Kind, host: &Text, service: &Text) -> Result<LogEntry, Memory>
+    ensures { IfOk result
+        (λ entry. entry ≡ record (blank 1 kind) { host = host.now; service = service.now }) }
+{
+    let mut entry = blank(ALERT, kind);
+    entry.host = host.clone()?;
+    entry.service = service.clone()?;
+    Ok(entry)
+}
+
+/// What a text says, found by reading it. Few forms need it.
+#[inline(never)]
+fn entry_read_back(alloc: Global, text: &str, message: &Text) -> Result<LogEntry, Memory>
+    ensures { IfOk result (λ entry. entry ≡ entry_of_text text.now) }
+{
+    let mut texts = Texts::of_a_line(alloc);
+    texts.begin(message)?;
+    entry_of_text(&mut texts, text)
 }
 
 /// The line of a text, with its second.
@@ -156,7 +265,7 @@ fn push_result(text: &mut String, hard: bool, attempt: u32, output: &str) -> Res
         ≡ string_bytes text.old ++ next_field (type_word hard) ++ next_field (decimal attempt)
         ++ next_field output.now) }
 {
-    push_field(text, if hard { "HARD" } else { "SOFT" })?;
+    push_field(text, type_word(hard))?;
     let mut digits = Buffer::new();
     push_field(text, digits.format(attempt))?;
     push_field(text, output)
@@ -183,7 +292,8 @@ fn downtime_text(
 {
     let mut text = String::from_str(alloc, downtime_name(service))?;
     push_object(&mut text, host, service)?;
-    push_field(&mut text, downtime_fields(service, change))?;
+    push_field(&mut text, downtime_word(change))?;
+    push_field(&mut text, downtime_comment(service, change))?;
     Ok(text)
 }
 
@@ -238,37 +348,70 @@ fn downtime_name(service: &str) -> &'static str
     }
 }
 
-/// What happens to a downtime, and the comment that follows it.
-fn downtime_fields(service: &str, change: DowntimeChange) -> &'static str
-    ensures { result.now ≡ downtime_fields service.now change }
+fn kind_of_alert(service: &str) -> Kind
+    ensures { result ≡ kind_of_alert service.now }
 {
     if service.is_empty() {
-        host_downtime(change)
+        Kind::HostAlert
     } else {
-        service_downtime(change)
+        Kind::ServiceAlert
     }
 }
 
-fn host_downtime(change: DowntimeChange) -> &'static str
-    ensures { result.now ≡ host_downtime change }
+fn kind_of_downtime(service: &str) -> Kind
+    ensures { result ≡ kind_of_downtime service.now }
 {
-    match change {
-        DowntimeChange::Started => "STARTED; Host has entered a period of scheduled downtime",
-        DowntimeChange::Stopped => "STOPPED; Host has exited from a period of scheduled downtime",
-        DowntimeChange::Cancelled => "CANCELLED; Scheduled downtime for host has been cancelled.",
+    if service.is_empty() {
+        Kind::HostDowntimeAlert
+    } else {
+        Kind::ServiceDowntimeAlert
     }
 }
 
-fn service_downtime(change: DowntimeChange) -> &'static str
-    ensures { result.now ≡ service_downtime change }
+fn type_word(hard: bool) -> &'static str
+    ensures { result.now ≡ type_word hard }
+{
+    if hard { "HARD" } else { "SOFT" }
+}
+
+/// What happens to a downtime.
+fn downtime_word(change: DowntimeChange) -> &'static str
+    ensures { result.now ≡ downtime_word change }
 {
     match change {
-        DowntimeChange::Started => "STARTED; Service has entered a period of scheduled downtime",
-        DowntimeChange::Stopped => {
-            "STOPPED; Service has exited from a period of scheduled downtime"
-        }
-        DowntimeChange::Cancelled => {
-            "CANCELLED; Scheduled downtime for service has been cancelled."
-        }
+        DowntimeChange::Started => "STARTED",
+        DowntimeChange::Stopped => "STOPPED",
+        DowntimeChange::Cancelled => "CANCELLED",
+    }
+}
+
+/// The comment that follows what happens to a downtime. It begins with a blank.
+fn downtime_comment(service: &str, change: DowntimeChange) -> &'static str
+    ensures { result.now ≡ downtime_comment service.now change }
+{
+    if service.is_empty() {
+        host_comment(change)
+    } else {
+        service_comment(change)
+    }
+}
+
+fn host_comment(change: DowntimeChange) -> &'static str
+    ensures { result.now ≡ host_comment change }
+{
+    match change {
+        DowntimeChange::Started => " Host has entered a period of scheduled downtime",
+        DowntimeChange::Stopped => " Host has exited from a period of scheduled downtime",
+        DowntimeChange::Cancelled => " Scheduled downtime for host has been cancelled.",
+    }
+}
+
+fn service_comment(change: DowntimeChange) -> &'static str
+    ensures { result.now ≡ service_comment change }
+{
+    match change {
+        DowntimeChange::Started => " Service has entered a period of scheduled downtime",
+        DowntimeChange::Stopped => " Service has exited from a period of scheduled downtime",
+        DowntimeChange::Cancelled => " Scheduled downtime for service has been cancelled.",
     }
 }
