@@ -13,7 +13,7 @@ use Rattle.lq_schema.specs.declared.columns.Col.{Col}
 use Rattle.lq_filter.specs.Trees.{holds, truth_on}
 use Rattle.lq_filter.specs.declared.header.Header.{Header}
 use Rattle.lq_output.specs.Body.{body_limit, body_text}
-use Rattle.lq_output.specs.Writing.{Writes, Writing, IsTooLargeWith, AddsCell, EndsLine}
+use Rattle.lq_output.specs.Writing.{Writes, Writing, IsTooLargeWith, AddsCell, EndsLine, EndsLineWith}
 use Rattle.lq_tables.specs.declared.row.Row.{Row}
 use Rattle.lq_query.specs.Answer.{first_lines}
 use Rattle.lq_query.specs.Rows.{chosen_rows, row_cells}
@@ -84,6 +84,16 @@ line_of_cells old mid new cells first layout ends = record {
 pub line_too_large : (old : Writing) (cells : List Value) → AreTooLarge old cells → IsTooLarge old (cells ∷ [])
 line_too_large old cells large before is more =
     subst (λ (l : List Value). body_limit < length (body_text old.layout (before ++ l ∷ more))) (append-nil cells) (large before [] is [] more)
+
+-- a line of one cell
+pub line_of_cell : (old new : Writing) (value : Value) → new.layout ≡ old.layout → EndsLineWith old new value → HasLines old new ((value ∷ []) ∷ [])
+line_of_cell old new value layout ends = record {
+  layout = layout;
+  written = λ before is. ends before [] is;
+}
+
+pub cell_too_large : (old : Writing) (value : Value) → IsTooLargeWith old value → IsTooLarge old ((value ∷ []) ∷ [])
+cell_too_large old value large before is more = large before [] is [] more
 
 -- ---- rows
 

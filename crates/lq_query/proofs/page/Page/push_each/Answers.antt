@@ -1,10 +1,21 @@
-use Rattle.std.proofs.Common.{rules, ◌≡◌, Err, [], ◌∷◌, subst, arith}
+use Rattle.std.proofs.Common.{rules, ◌≡◌, Err, List, [], ◌∷◌, map, subst, sym, arith, OnOk}
+use Rattle.lq_schema.specs.declared.columns.Col.{Col}
 use Rattle.lq_output.specs.declared.error.WriteErr.TheVariants.{TooLarge}
-use Rattle.lq_query.specs.Lines.{IsTooLarge, seen_cells}
+use Rattle.lq_query.specs.Lines.{HasLines, IsTooLarge, seen_cells}
 use Rattle.lq_tables.specs.declared.row.Row.{Row}
 use Rattle.lq_query.specs.Rows.{row_cells}
 use Rattle.lq_query.proofs.RowLemmas.{line_large, lines_all}
 use Rattle.lq_query.proofs.page.Page.push_each.Goals as goal
+
+pub returns-in-Some-clause-lines : goal.returns-in-Some-clause-lines
+returns-in-Some-clause-lines c =
+    subst (λ (columns : List Col). OnOk c.push_texts.result (HasLines c.args.writer.now c.push_texts.new.writer (map (λ (row : Row). row_cells columns (seen_cells c.args.self.now.sight row)) c.args.rows.now)))
+    (sym c.in-Some.ensures) c.push_texts.ensures.lines
+
+pub returns-in-Some-clause-large : goal.returns-in-Some-clause-large
+returns-in-Some-clause-large c = λ large.
+    subst (λ (columns : List Col). IsTooLarge c.args.writer.now (map (λ (row : Row). row_cells columns (seen_cells c.args.self.now.sight row)) c.args.rows.now))
+    (sym c.in-Some.ensures) (c.push_texts.ensures.large large)
 
 pub returns-in_err-push_row-clause-large : goal.returns-in_err-push_row-clause-large
 returns-in_err-push_row-clause-large c = λ large.
