@@ -26,6 +26,7 @@ use lq_records::{Items, Memory, Refusal, Text};
 use lq_request::{Cut, Cutting, ReadErr, Request, read_request, reply_style};
 use std::alloc::{AllocError, Global};
 use std::marker::Model;
+use std::mem::forget;
 
 /// How many messages of a connection are served. A further one isn't looked at: the connection
 /// ends.
@@ -65,6 +66,8 @@ impl From<AllocError> for ServeErr {
 /// the end of the input. The errors are `Read`, `Write` and out of memory. A query or a message
 /// that is too long for which memory runs out is refused with the code 500, in its style, before
 /// the connection ends with that error, also where the write of it fails.
+///
+/// The program ends after it: the state's memory isn't given back.
 pub fn serve<S: Source, K: Sink>(
     alloc: Global,
     live: Live,
@@ -92,7 +95,11 @@ pub fn serve<S: Source, K: Sink>(
     let Ok((mut session, mut cut, mut piece)) = start(alloc, live) else {
         return Err(ServeErr::Memory);
     };
-    serve_all(&mut session, &mut cut, &mut piece, input, output)
+    let served = serve_all(&mut session, &mut cut, &mut piece, input, output);
+    // Its memory is left to the system, which takes it back at once when the program ends. A drop
+    // would go over each text of the state.
+    forget(session);
+    served
 }
 
 /// Serves the messages of an input from an opening state on.

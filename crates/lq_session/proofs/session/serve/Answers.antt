@@ -11,6 +11,6 @@ returns-in_default-clause-stopped g c = record { taken = []; consumed = Consumes
 
 pub returns-clause-written : goal.returns-clause-written
 returns-clause-written g c =
-    subst (λ (live : Counted). OnOk c.serve_all.result (IfSome (g.S.Source.left c.args.input.now) (λ all.
-    Appends (g.K.Sink.held c.args.output.now) (g.K.Sink.held c.serve_all.new.output) (replies live.state all))))
-    c.in-Ok.ensures.session c.serve_all.ensures.written
+    subst (λ (live : Counted). OnOk c.serve_all-served.result (IfSome (g.S.Source.left c.args.input.now) (λ all.
+    Appends (g.K.Sink.held c.args.output.now) (g.K.Sink.held c.serve_all-served.new.output) (replies live.state all))))
+    c.in-Ok.ensures.session c.serve_all-served.ensures.written
