@@ -315,6 +315,28 @@ const ALERTS: &[(&str, i64, (&str, &str))] = &[
             "1 ServiceAlert 3 2|web1|disk|SOFT|||it; is|",
         ),
     ),
+    // These say something else than the form, so they are read back.
+    (
+        "disk;CRITICAL;HARD;7",
+        0,
+        (
+            "SERVICE ALERT: web1;disk;CRITICAL;HARD;7;OK;HARD;2;it; is",
+            "1 ServiceAlert 2 7|web1|disk|HARD|||OK;HARD;2;it; is|",
+        ),
+    ),
+    (
+        "disk;OK",
+        1,
+        (
+            "SERVICE ALERT: web1;disk;OK;WARNING;SOFT;2;it; is",
+            "0 Other 0 0|||||||",
+        ),
+    ),
+    (
+        "",
+        7,
+        ("HOST ALERT: web1;;SOFT;2;it; is", "0 Other 0 0|||||||"),
+    ),
 ];
 
 /// A downtime of web1 or of a service on it.

@@ -1,4 +1,5 @@
-//! Texts that no file and no command can give, since they hold a line feed, in each format.
+//! Texts that no file and no command can give, since they hold a line feed, and lines of one text,
+//! in each format.
 
 use lq_output::{WriteErr, Writer};
 use lq_records::{Format, Items, Separators};
@@ -35,6 +36,33 @@ fn line_feeds_in_texts_are_written_as_each_format_wants(rt: HostRuntime) -> Resu
             body.is_ok_and(|body| body.as_slice() == expected.as_bytes()),
             "{:?}",
             text
+        );
+    }
+    Ok(())
+}
+
+/// A format, and the body of a line with the text `a;b"` and one with the empty text.
+const LINES: &[(Format, &str)] = &[
+    (Format::Csv, "a;b\"\n\n"),
+    (Format::Quoted, "\"a;b\"\"\"\r\n\r\n"),
+    (Format::Json, "[[\"a;b\\\"\"],\n[\"\"]]\n"),
+];
+
+fn body_of_lines(alloc: Global, format: Format) -> Result<Items<u8>, WriteErr> {
+    let mut writer = Writer::new(alloc, format, Separators::default())?;
+    writer.text_line("a;b\"")?;
+    writer.text_line("")?;
+    writer.finish()
+}
+
+#[test]
+fn lines_of_one_text_are_written_in_each_format(rt: HostRuntime) -> Result<(), Fail> {
+    for (format, expected) in LINES {
+        let body = body_of_lines(rt.alloc(), *format);
+        assert!(rt;
+            body.is_ok_and(|body| body.as_slice() == expected.as_bytes()),
+            "{}",
+            expected
         );
     }
     Ok(())
