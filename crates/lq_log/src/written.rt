@@ -157,7 +157,8 @@ fn entry_of_own_fields(alloc: Global, form: &Form, message: &Text) -> Result<Log
             entry.state = *state;
             entry.word = Text::new(alloc, type_word(*hard))?;
             entry.attempt = *attempt;
-            entry.output = output.clone()?;
+            // It is the end of the line, as a downtime's comment below: both share its bytes.
+            entry.output = message.with_end(alloc, output.as_str())?;
             Ok(entry)
         }
         Form::Downtime {
@@ -167,7 +168,6 @@ fn entry_of_own_fields(alloc: Global, form: &Form, message: &Text) -> Result<Log
         } => {
             let mut entry = entry_of_object(kind_of_downtime(service.as_str()), host, service)?;
             entry.word = Text::new(alloc, downtime_word(*change))?;
-            // It is the end of the line, and shares its bytes.
             entry.comment = message.with_end(alloc, downtime_comment(service.as_str(), *change))?;
             Ok(entry)
         }
