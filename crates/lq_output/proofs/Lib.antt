@@ -1,3 +1,4 @@
 pub mod EscapeLemmas
 pub mod HeaderLemmas
+pub mod LineLemmas
 pub mod WritingLemmas

@@ -6,7 +6,7 @@ use Rattle.std.specs.List.{flat_map}
 use Rattle.lq_schema.specs.Value.{Value}
 use Rattle.lq_output.specs.Body.{body_limit, body_text, line_of_values, marks_of}
 use Rattle.lq_output.specs.Cells.{cell_text, joined_texts}
-use Rattle.lq_output.specs.Writing.{AddsCell, EndsLine, EndsLineWith, IsTooLargeWith, IsWithinLimit, Writes, Writing, all_lines, whole_body, gap_of_line, is_some_of, so_far, with_cell, with_line_end}
+use Rattle.lq_output.specs.Writing.{AddsCell, EndsLine, IsTooLargeWith, IsWithinLimit, Writes, Writing, all_lines, whole_body, gap_of_line, is_some_of, so_far, with_cell, with_line_end}
 use Rattle.lq_output.specs.declared.layout.Layout.{Layout}
 
 -- ---- joined texts
@@ -126,10 +126,6 @@ ends_line w begun lines (cell ∷ cells) is = record {
 
 pub ends_line_of : (old new : Writing) → old.has_cell ≡ true → new ≡ with_line_end old → EndsLine old new
 ends_line_of old new begun is = subst (λ after. EndsLine old after) (sym is) (ends_line old begun)
-
-pub ends_line_with : (old new : Writing) (value : Value) → new ≡ with_line_end (with_cell old value) → EndsLineWith old new value
-ends_line_with old new value is lines cells written =
-    ends_line_of (with_cell old value) new refl is lines (cells ++ value ∷ []) (adds_cell old value lines cells written)
 
 -- ---- the limit
 

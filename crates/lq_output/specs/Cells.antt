@@ -34,6 +34,11 @@ plain_text list pair (Texts texts) = joined_texts (list ∷ []) texts
 plain_text list pair (Numbers numbers) = joined_texts (list ∷ []) (map decimal numbers)
 plain_text list pair (Pairs pairs) = joined_texts (list ∷ []) (map (pair_text pair) pairs)
 
+-- a line of one value, with the byte that ends it
+abbrev pub plain_line : Separators → Value → List ℕ
+plain_line separators value =
+    plain_text separators.list separators.pair value ++ separators.row ∷ []
+
 -- ---- CSV
 
 -- whether RFC 4180 quotes a field with this byte

@@ -94,11 +94,10 @@ EndsLine old new =
     (lines : List (List Value)) (cells : List Value)
     → Writes old lines cells → Writes new (lines ++ cells ∷ []) []
 
--- the open line, with the cell behind its other ones, is now the last of the lines
-abbrev pub EndsLineWith : Writing → Writing → Value → Type 0
-EndsLineWith old new value =
-    (lines : List (List Value)) (cells : List Value)
-    → Writes old lines cells → Writes new (lines ++ (cells ++ value ∷ []) ∷ []) []
+-- these lines follow, where no line is open
+abbrev pub AddsLines : Writing → Writing → List (List Value) → Type 0
+AddsLines old new added =
+    (lines : List (List Value)) → Writes old lines [] → Writes new (lines ++ added) []
 
 -- the text of the lines, with the open one as if ended where it has a cell, isn't too large
 abbrev pub IsWithinLimit : Writing → Type 0

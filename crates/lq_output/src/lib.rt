@@ -7,6 +7,7 @@ mod fields;
 mod header;
 mod json_text;
 mod layout;
+mod lines;
 mod marks;
 mod number;
 mod plain;
@@ -14,4 +15,5 @@ mod writer;
 
 pub use error::WriteErr;
 pub use header::{fixed16, refusal};
+pub use lines::LineTexts;
 pub use writer::{BODY_LIMIT, Writer};

@@ -1,18 +1,19 @@
-ghost use Rattle.std.specs.Prelude.{◌≡◌, ◌+◌, ◌<◌, ◌≤◌, [], ◌∷◌, ◌++◌, length, take, true, false};
+ghost use Rattle.std.specs.Prelude.{◌≡◌, ◌+◌, ◌<◌, ◌≤◌, [], ◌∷◌, ◌++◌, length, map, take, true, false};
 ghost use Rattle.std.specs.Prelude.{IfErr, IfOk, OnOk, OnErr, IsOkUnless};
 ghost use Rattle.lq_schema.specs.Value.{Number, Words, meaning_of};
 ghost use Rattle.lq_output.specs.Body.{body_limit, marks_of};
 ghost use Rattle.lq_output.specs.CellValue.{value_of_cell};
 ghost use Rattle.lq_output.specs.Escapes.{is_as_it_is};
 ghost use Rattle.lq_output.specs.Spots.{ended_length, text_at};
-ghost use Rattle.lq_output.specs.Writing.{AddsCell, EndsLine, EndsLineWith, IsTextOfLines};
-ghost use Rattle.lq_output.specs.Writing.{IsTooLargeWith, IsWithinLimit, Writes, whole_body};
+ghost use Rattle.lq_output.specs.Writing.{AddsCell, AddsLines, EndsLine};
+ghost use Rattle.lq_output.specs.Writing.{IsTextOfLines, IsTooLargeWith, IsWithinLimit, Writes, whole_body};
 ghost use Rattle.lq_output.specs.Writing.{nothing_written};
 ghost use Rattle.lq_output.specs.Writing.{with_cell, with_line_end};
 
 use crate::cell::{Cell, is_as_it_is, push_as_it_is, push_cell};
 use crate::error::WriteErr;
 use crate::layout::{Layout, Spot};
+use crate::lines::{FEWEST, LineTexts, push_plain_lines};
 use crate::marks::{ending_len, push_finish, push_gap, push_line_end, push_start};
 use crate::number::push_number;
 use lq_records::{Format, Items, Memory, Separators};
@@ -193,65 +194,28 @@ impl Writer {
         Ok(())
     }
 
-    /// Adds a text to the open line and ends it, as `text` and then `end_line` do. After an error
-    /// the writer is as it was before both.
+    /// Adds the lines of the first rows, each of which is the text that the row gives, and says how
+    /// many they are. It may stop at any row: it does at the first that gives no text, where the
+    /// format isn't csv or a line is open, and where the body has no room or there is no memory.
     #[inline(always)]
-    pub fn text_line(&mut self, text: &str) -> Result<(), WriteErr>
-        ensures ok { OnOk result
-            (self.new ≡ with_line_end (with_cell self.old (Words text.now))) }
-        ensures lines { OnOk result (EndsLineWith self.old self.new (Words text.now)) }
-        ensures fits { OnOk result (IsWithinLimit self.new) }
-        ensures large { result ≡ Err WriteErr.TooLarge
-            → IsTooLargeWith self.old (Words text.now) }
-        ensures err { OnErr result (self.new ≡ self.old) }
+    pub fn text_lines<T: LineTexts>(&mut self, texts: &T, rows: &[T::Row]) -> usize
+        ensures within { result ≤ length rows.now }
+        ensures layout { self.new.layout ≡ self.old.layout }
+        ensures lines { AddsLines self.old self.new
+            (map (λ row. T.cell texts.now row ∷ []) (take result rows.now)) }
     {
-        self.append_line(text)
-    }
-
-    /// What `text_line` does, said of the bytes. A whole line of csv, which is a text and one byte
-    /// behind it, is written at once; any other takes the steps of its cell and its end.
-    #[inline(always)]
-    fn append_line(&mut self, text: &str) -> Result<(), WriteErr>
-        ensures ok { OnOk result
-            (self.new ≡ with_line_end (with_cell self.old (Words text.now))) }
-        ensures fits { OnOk result (length (whole_body self.new) ≤ body_limit) }
-        ensures large { result ≡ Err WriteErr.TooLarge
-            → body_limit < length (whole_body (with_cell self.old (Words text.now))) }
-        ensures err { OnErr result (self.new ≡ self.old) }
-    {
-        if self.has_cell {
-            return self.append_steps(text);
+        if self.has_cell || rows.len() < FEWEST {
+            return 0;
         }
         match self.layout.format {
             Format::Csv => {
-                push_plain_line(&mut self.body, self.layout.separators.row, text)?;
-                self.has_line = true;
-                Ok(())
+                let separators = self.layout.separators;
+                let count = push_plain_lines(&mut self.body, separators, texts, rows);
+                self.has_line |= count > 0;
+                count
             }
-            Format::Quoted | Format::Json => self.append_steps(text),
+            Format::Quoted | Format::Json => 0,
         }
-    }
-
-    /// Adds a text and ends its line in two steps. It stands apart so that lines of csv keep
-    /// nothing for it.
-    #[inline(never)]
-    fn append_steps(&mut self, text: &str) -> Result<(), WriteErr>
-        ensures ok { OnOk result
-            (self.new ≡ with_line_end (with_cell self.old (Words text.now))) }
-        ensures fits { OnOk result (length (whole_body self.new) ≤ body_limit) }
-        ensures large { result ≡ Err WriteErr.TooLarge
-            → body_limit < length (whole_body (with_cell self.old (Words text.now))) }
-        ensures err { OnErr result (self.new ≡ self.old) }
-    {
-        let start = self.body.len();
-        let had_cell = self.has_cell;
-        self.append(Cell::Text(text))?;
-        if self.end_line().is_err() {
-            self.body.truncate(start);
-            self.has_cell = had_cell;
-            return Err(WriteErr::Memory);
-        }
-        Ok(())
     }
 
     /// The whole body, of `BODY_LIMIT` bytes at most. The open line has no cell. The only error is
@@ -336,27 +300,6 @@ fn push_apart(
     let start = body.len();
     body.extend_from_slice(apart)?;
     keep_fitting(body, start, spot.layout)
-}
-
-/// Adds a text and the byte that ends its line to a body of csv, which nothing finishes. The body
-/// grows once for both. After an error it is as it was.
-#[inline(always)]
-fn push_plain_line(body: &mut Vec<u8>, row: u8, text: &str) -> Result<(), WriteErr>
-    requires { length body.old.items ≤ body_limit }
-    ensures ok { OnOk result (body.new.items ≡ body.old.items ++ (text.now ++ row ∷ [])) }
-    ensures fits { OnOk result (length body.new.items ≤ body_limit) }
-    ensures large { result ≡ Err WriteErr.TooLarge
-        → body_limit < length body.old.items + (length text.now + 1) }
-    ensures err { OnErr result (body.new.items ≡ body.old.items) }
-{
-    let bytes = text.as_bytes();
-    if bytes.len() >= BODY_LIMIT - body.len() {
-        return Err(WriteErr::TooLarge);
-    }
-    body.reserve(bytes.len() + 1)?;
-    body.extend_from_slice(bytes)?;
-    body.push_reserved(row);
-    Ok(())
 }
 
 /// Takes what was added to a body behind a place away again, where the body has no room for it and

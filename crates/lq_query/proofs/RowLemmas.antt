@@ -1,5 +1,5 @@
 -- Rows and their lines, part by part.
-use Rattle.std.proofs.Common.{◌≡◌, ℕ, zero, suc, ◌+◌, ◌-◌, ◌<◌, ◌≤◌, Bool, true, false, List, [], ◌∷◌, ◌++◌, length, map, min, take, drop, get_or, refl, subst, sym, ap, ◌∙◌, append_assoc, arith, length-append}
+use Rattle.std.proofs.Common.{◌≡◌, ℕ, zero, suc, ◌+◌, ◌-◌, ◌<◌, ◌≤◌, Bool, true, false, List, [], ◌∷◌, ◌++◌, length, map, min, take, drop, get_or, refl, subst, sym, ap, ◌∙◌, append_assoc, arith, length-append, length-drop}
 use Rattle.std.proofs.Math.Logic.{⊎_elim}
 use Rattle.std.proofs.Math.Seq.{take-add}
 use Rattle.std.proofs.lemmas.Bool.{cases_Bool}
@@ -13,7 +13,7 @@ use Rattle.lq_schema.specs.declared.columns.Col.{Col}
 use Rattle.lq_filter.specs.Trees.{holds, truth_on}
 use Rattle.lq_filter.specs.declared.header.Header.{Header}
 use Rattle.lq_output.specs.Body.{body_limit, body_text}
-use Rattle.lq_output.specs.Writing.{Writes, Writing, IsTooLargeWith, AddsCell, EndsLine, EndsLineWith}
+use Rattle.lq_output.specs.Writing.{Writes, Writing, IsTooLargeWith, AddsCell, EndsLine}
 use Rattle.lq_tables.specs.declared.row.Row.{Row}
 use Rattle.lq_query.specs.Answer.{first_lines}
 use Rattle.lq_query.specs.Rows.{chosen_rows, row_cells}
@@ -84,16 +84,6 @@ line_of_cells old mid new cells first layout ends = record {
 pub line_too_large : (old : Writing) (cells : List Value) → AreTooLarge old cells → IsTooLarge old (cells ∷ [])
 line_too_large old cells large before is more =
     subst (λ (l : List Value). body_limit < length (body_text old.layout (before ++ l ∷ more))) (append-nil cells) (large before [] is [] more)
-
--- a line of one cell
-pub line_of_cell : (old new : Writing) (value : Value) → new.layout ≡ old.layout → EndsLineWith old new value → HasLines old new ((value ∷ []) ∷ [])
-line_of_cell old new value layout ends = record {
-  layout = layout;
-  written = λ before is. ends before [] is;
-}
-
-pub cell_too_large : (old : Writing) (value : Value) → IsTooLargeWith old value → IsTooLarge old ((value ∷ []) ∷ [])
-cell_too_large old value large before is more = large before [] is [] more
 
 -- ---- rows
 
@@ -248,6 +238,25 @@ line_large line rows place row old mid within first large =
 pub lines_all : {X : Type 0} (line : X → List Value) (rows : List X) (place : ℕ) (old new : Writing) → length rows ≤ place
     → HasLines old new (map line (take place rows)) → HasLines old new (map line rows)
 lines_all line rows place old new all first = subst (λ those. HasLines old new (map line those)) (take_all place rows all) first
+
+-- the lines of the rows that are left behind the first
+rest_of : {X : Type 0} (line : X → List Value) (rows : List X) (count : ℕ)
+    → map line (take count rows) ++ map line (take (length rows - count) (drop count rows)) ≡ map line rows
+rest_of line rows count =
+    ap (λ those. map line (take count rows) ++ map line those) (take_all (length rows - count) (drop count rows) (omega (arith, length-drop count rows)))
+    ∙ sym (map-append line (take count rows) (drop count rows)) ∙ ap (map line) (take-append-drop count rows)
+
+module _ {X : Type 0} (line : X → List Value) (rows : List X) (count : ℕ) (old mid : Writing) (first : HasLines old mid (map line (take count rows))) where
+  pub rest_added : (new : Writing) → HasLines mid new (map line (take (length rows - count) (drop count rows))) → HasLines old new (map line rows)
+  rest_added new second =
+      subst (HasLines old new) (rest_of line rows count)
+      (HasLines-then old mid new (map line (take count rows)) (map line (take (length rows - count) (drop count rows))) first second)
+
+  pub rest_large : IsTooLarge mid (map line (take (length rows - count) (drop count rows))) → IsTooLarge old (map line rows)
+  rest_large large =
+      let front = map line (take count rows) in
+      let back = map line (take (length rows - count) (drop count rows)) in
+      subst (IsTooLarge old) (ap (λ those. front ++ those) (append-nil back) ∙ rest_of line rows count) (IsTooLarge-then old mid front back [] first large)
 
 -- ---- the lines of marked rows
 

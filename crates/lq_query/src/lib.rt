@@ -12,6 +12,7 @@ mod reply;
 mod row_test;
 mod selection;
 mod sight;
+mod text_lines;
 mod window;
 
 pub use isolation::replies_are_isolated;

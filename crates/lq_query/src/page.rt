@@ -11,6 +11,7 @@ ghost use Rattle.lq_query.specs.Lines.{rows_with_marks};
 use crate::column::ShownColumn;
 use crate::selection::Selection;
 use crate::sight::Sight;
+use crate::text_lines::push_text_lines;
 use lq_filter::{Filter, Scan};
 use lq_output::{WriteErr, Writer};
 use lq_request::Request;
@@ -95,8 +96,8 @@ impl Page<'_> {
         self.push_each(writer, first_of(rows, most))
     }
 
-    /// Adds the line of each row. Where one column of texts is shown, its rows have a loop of their
-    /// own, since in so short a line the way to the cell and to the line's end costs the most.
+    /// Adds the line of each row: of the first ones all at once, where they are of one text, and of
+    /// the others one by one.
     fn push_each(&self, writer: &mut Writer, rows: &[Row]) -> Result<(), WriteErr>
         requires { 0 < length self.now.columns.now }
         ensures lines { OnOk result (HasLines writer.old writer.new
@@ -106,13 +107,24 @@ impl Page<'_> {
             (map (λ row. row_cells self.now.columns.now (seen_cells self.now.sight row))
             rows.now) }
     {
-        if let Some(column) = self.text_column() {
-            return self.push_texts(writer, rows, column);
+        let count = self.push_texts(writer, rows);
+        self.push_lines(writer, &rows[count..])
+    }
+
+    /// Adds the lines of the first rows where one column of texts is shown, and says how many they
+    /// are. In so short a line the way to the cell and to the line's end costs the most. It stands
+    /// apart so that the loop over lines of several cells stays as it is.
+    #[inline(never)]
+    fn push_texts(&self, writer: &mut Writer, rows: &[Row]) -> usize
+        ensures within { result ≤ length rows.now }
+        ensures lines { HasLines writer.old writer.new
+            (map (λ row. row_cells self.now.columns.now (seen_cells self.now.sight row))
+            (take result rows.now)) }
+    {
+        match self.text_column() {
+            Some(column) => push_text_lines(&self.sight, writer, rows, column),
+            None => 0,
         }
-        for row in rows {
-            self.push_row(writer, row)?;
-        }
-        Ok(())
     }
 
     /// The column that is shown, if it is one alone and of texts.
@@ -125,50 +137,20 @@ impl Page<'_> {
         }
     }
 
-    /// Adds the line of each row where one column of texts is shown. It stands apart so that the
-    /// loop over lines of several cells stays as it is.
-    #[inline(never)]
-    fn push_texts(&self, writer: &mut Writer, rows: &[Row], column: Col) -> Result<(), WriteErr>
+    /// Adds the line of each row, cell by cell.
+    fn push_lines(&self, writer: &mut Writer, rows: &[Row]) -> Result<(), WriteErr>
+        requires { 0 < length self.now.columns.now }
         ensures lines { OnOk result (HasLines writer.old writer.new
-            (map (λ row. seen_cells self.now.sight row column ∷ []) rows.now)) }
+            (map (λ row. row_cells self.now.columns.now (seen_cells self.now.sight row))
+            rows.now)) }
         ensures large { result ≡ Err TooLarge → IsTooLarge writer.old
-            (map (λ row. seen_cells self.now.sight row column ∷ []) rows.now) }
+            (map (λ row. row_cells self.now.columns.now (seen_cells self.now.sight row))
+            rows.now) }
     {
         for row in rows {
-            self.push_text(writer, row, column)?;
+            self.push_row(writer, row)?;
         }
         Ok(())
-    }
-
-    /// Adds the line of a row where one column of texts is shown. As in `push_cell` a text that the
-    /// state holds as it is comes first.
-    #[inline(always)]
-    fn push_text(&self, writer: &mut Writer, row: &Row, column: Col) -> Result<(), WriteErr>
-        ensures lines { OnOk result (HasLines writer.old writer.new
-            ((seen_cells self.now.sight row.now column ∷ []) ∷ [])) }
-        ensures large { result ≡ Err TooLarge → IsTooLarge writer.old
-            ((seen_cells self.now.sight row.now column ∷ []) ∷ []) }
-    {
-        match self.sight.own_text(row, column) {
-            Some(text) => writer.text_line(text),
-            None => self.push_other_text(writer, row, column),
-        }
-    }
-
-    /// The same for any row and column. It stands apart so that the loop over plain rows keeps
-    /// nothing for it.
-    #[inline(never)]
-    fn push_other_text(&self, writer: &mut Writer, row: &Row, column: Col) -> Result<(), WriteErr>
-        ensures lines { OnOk result (HasLines writer.old writer.new
-            ((seen_cells self.now.sight row.now column ∷ []) ∷ [])) }
-        ensures large { result ≡ Err TooLarge → IsTooLarge writer.old
-            ((seen_cells self.now.sight row.now column ∷ []) ∷ []) }
-    {
-        if let Some(text) = row_text(self.sight.live, row, column, self.sight.view) {
-            return writer.text_line(text);
-        }
-        self.push_any(writer, row, column)?;
-        writer.end_line()
     }
 
     /// Adds the lines of the rows that are shown. The rows are tested block by block, and none
@@ -271,7 +253,7 @@ impl Page<'_> {
             return Ok(());
         }
         selection.left -= 1;
-        self.push_each(writer, from_ref(row))
+        self.push_lines(writer, from_ref(row))
     }
 
     /// Adds the line of a row.

@@ -1,6 +1,7 @@
 //! Replies as consoles read them: the formats of bodies, separators, and the line of 16 bytes.
 
-use crate::fixture::{Asked, SITE, assert_asked};
+use crate::fixture::{Asked, SITE, Site, assert_asked, assert_same, push_all};
+use std::alloc::{AllocError, Global};
 use std::test::Fail;
 
 /// web2 is down. web1 has a comment of a quote, a character of two bytes, a tab and `!`; http has
@@ -197,4 +198,68 @@ const OF_ALIASES: &[(&str, &str)] = &[
 #[test]
 fn texts_are_written_as_each_format_wants(rt: HostRuntime) -> Result<(), Fail> {
     assert_asked(&rt, SPECIAL, "", &[(ALIASES, OF_ALIASES)])
+}
+
+// ---- one column
+
+/// How many hosts a large site has.
+const MANY: usize = 900;
+
+/// A host's name. That of one has 5,000 bytes more than others.
+fn name_of(alloc: Global, number: usize) -> Result<String, AllocError> {
+    let mut name = format!(in alloc; "h{number}")?;
+    if number == 600 {
+        for _ in 0..5_000 {
+            name.push('x')?;
+        }
+    }
+    Ok(name)
+}
+
+/// An object file of many hosts.
+fn many_hosts(alloc: Global) -> Result<String, AllocError> {
+    let mut objects = String::new(alloc);
+    for number in 0..MANY {
+        let name = name_of(alloc, number)?;
+        push_all(
+            &mut objects,
+            &["define host {\nhost_name ", name.as_str(), "\n}\n"],
+        )?;
+    }
+    Ok(objects)
+}
+
+/// The first names, each with an end.
+fn names_with(alloc: Global, end: &str, most: usize) -> Result<String, AllocError> {
+    let mut names = String::new(alloc);
+    for number in 0..most {
+        let name = name_of(alloc, number)?;
+        push_all(&mut names, &[name.as_str(), end])?;
+    }
+    Ok(names)
+}
+
+/// A query of names, the end of each name in its reply, and how many there are.
+const OF_NAMES: &[(&str, &str, usize)] = &[
+    ("GET hosts\nColumns: name", "\n", MANY),
+    ("GET hosts\nColumns: name\nLimit: 700", "\n", 700),
+    ("GET hosts\nColumns: name\nLimit: 15", "\n", 15),
+    (
+        "GET hosts\nColumns: name\nSeparators: 33 59 44 124",
+        "!",
+        MANY,
+    ),
+    ("GET hosts\nColumns: name\nOutputFormat: CSV", "\r\n", MANY),
+];
+
+#[test]
+fn names_of_many_hosts_are_a_line_each(rt: HostRuntime) -> Result<(), Fail> {
+    let objects = many_hosts(rt.alloc())?;
+    let site = Site::open(rt.alloc(), objects.as_bytes(), objects.as_bytes())?;
+    for (query, end, count) in OF_NAMES {
+        let expected = names_with(rt.alloc(), *end, *count)?;
+        let reply = site.ask(rt.alloc(), *query)?;
+        assert_same(&rt, reply.as_str(), expected.as_str(), query);
+    }
+    Ok(())
 }

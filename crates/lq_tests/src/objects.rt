@@ -186,7 +186,8 @@ _b x\n\t_A four five\n_ six\n}\n",
         "B,A,C,b,;,four five,three,x,six\n",
     ),
     (
-        b"define host {\nhost_name a\n_A 1\n_B 2\n_C 3\n_D 4\n_E 5\n_F 6\n_G 7\n_B 8\n_H 9\n_A 10\n}\n",
+        b"define host {\nhost_name a\n_A 1\n_B 2\n_C 3\n_D 4\n_E 5
+_F 6\n_G 7\n_B 8\n_H 9\n_A 10\n}\n",
         "GET hosts\nColumns: custom_variable_names custom_variable_values",
         "A,B,C,D,E,F,G,H;10,8,3,4,5,6,7,9\n",
     ),

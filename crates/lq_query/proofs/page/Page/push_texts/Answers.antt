@@ -1,17 +1,12 @@
-use Rattle.std.proofs.Common.{rules, ◌≡◌, Err, [], ◌∷◌, subst, arith}
-use Rattle.lq_output.specs.declared.error.WriteErr.TheVariants.{TooLarge}
-use Rattle.lq_query.specs.Lines.{IsTooLarge, seen_cells}
+use Rattle.std.proofs.Common.{List, map, subst, sym, take}
+use Rattle.lq_schema.specs.declared.columns.Col.{Col}
+use Rattle.lq_query.specs.Lines.{HasLines, seen_cells}
+use Rattle.lq_query.specs.Rows.{row_cells}
 use Rattle.lq_tables.specs.declared.row.Row.{Row}
-use Rattle.lq_query.proofs.RowLemmas.{line_large, lines_all}
 use Rattle.lq_query.proofs.page.Page.push_texts.Goals as goal
 
-pub returns-in_err-push_text-clause-large : goal.returns-in_err-push_text-clause-large
-returns-in_err-push_text-clause-large c = λ large.
-    let failed : c.push_text.result ≡ Err TooLarge = search (rules, large) in
-    line_large (λ (row : Row). seen_cells c.args.self.now.sight row c.args.column ∷ []) c.args.rows.now c.loop-row.row-index c.row-item.result
-    _ _ c.loop-row-test.true c.loop-row.invariant
-    (subst (λ (row : Row). IsTooLarge c.loop-row.writer ((seen_cells c.args.self.now.sight row c.args.column ∷ []) ∷ [])) c.row-item.is (c.push_text.ensures.large failed))
-
-pub returns-clause-lines : goal.returns-clause-lines
-returns-clause-lines c =
-    lines_all (λ (row : Row). seen_cells c.args.self.now.sight row c.args.column ∷ []) c.args.rows.now c.loop-row.row-index _ _ (omega (arith, c.loop-row-test.false)) c.loop-row.invariant
+pub returns-in-Some-clause-lines : goal.returns-in-Some-clause-lines
+returns-in-Some-clause-lines c =
+    subst (λ (columns : List Col). HasLines c.args.writer.now c.push_text_lines.new.writer
+    (map (λ (row : Row). row_cells columns (seen_cells c.args.self.now.sight row)) (take c.push_text_lines.result c.args.rows.now)))
+    (sym c.in-Some.ensures) c.push_text_lines.ensures.lines

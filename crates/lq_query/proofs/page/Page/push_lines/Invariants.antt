@@ -2,7 +2,7 @@ use Rattle.std.proofs.Common.{map, take}
 use Rattle.lq_query.specs.Lines.{seen_cells}
 use Rattle.lq_query.specs.Lines.{HasLines}
 use Rattle.lq_query.specs.Rows.{row_cells}
-use Rattle.lq_query.proofs.page.Page.push_each.Given as goal
+use Rattle.lq_query.proofs.page.Page.push_lines.Given as goal
 
 abbrev pub invariant-loop-row : goal.invariant-loop-row
 invariant-loop-row l =
