@@ -6,7 +6,7 @@ ghost use Rattle.lq_query.specs.Lines.{HasLines, seen_cells};
 use crate::sight::Sight;
 use lq_output::{LineTexts, Writer};
 use lq_schema::{Col, HostColumn, OwnColumn, ServiceColumn};
-use lq_tables::{Row, host_text, service_text};
+use lq_tables::{Row, host_text, row_text, service_text};
 
 /// The texts of a column of hosts.
 #[derive(Drop)]
@@ -46,6 +46,24 @@ impl LineTexts for ServiceTexts<'_> {
     }
 }
 
+/// The texts of any other column.
+#[derive(Drop)]
+struct RowTexts<'a> {
+    sight: Sight<'a>,
+    column: Col,
+}
+
+impl LineTexts for RowTexts<'_> {
+    type Row = Row;
+
+    ghost cell = { λ texts row. seen_cells texts.sight row texts.column };
+
+    #[inline]
+    fn text(&self, row: &Row) -> Option<&str> {
+        row_text(self.sight.live, row, self.column, self.sight.view)
+    }
+}
+
 /// Adds the lines of the first rows where one column of texts is shown, as many as the writer takes
 /// at once, and says how many they are. It may stop at any row. Names and descriptions have a loop
 /// each, so that none of these asks at each row which column it is.
@@ -67,7 +85,7 @@ pub(crate) fn push_text_lines(
             push_services(sight, writer, rows, ServiceColumn::Description)
         }
         OwnColumn::Service(own) => push_services(sight, writer, rows, own),
-        _ => 0,
+        _ => push_others(sight, writer, rows, column),
     }
 }
 
@@ -100,6 +118,20 @@ fn push_services(
         (take result rows.now)) }
 {
     let texts = ServiceTexts {
+        sight: *sight,
+        column,
+    };
+    writer.text_lines(&texts, rows)
+}
+
+/// The same for any column.
+#[inline(never)]
+fn push_others(sight: &Sight<'_>, writer: &mut Writer, rows: &[Row], column: Col) -> usize
+    ensures within { result ≤ length rows.now }
+    ensures lines { HasLines writer.old writer.new
+        (map (λ row. seen_cells sight.now row column ∷ []) (take result rows.now)) }
+{
+    let texts = RowTexts {
         sight: *sight,
         column,
     };
