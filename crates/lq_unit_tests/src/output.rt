@@ -50,10 +50,10 @@ const LINES: &[(Format, &str)] = &[
 
 fn body_of_lines(alloc: Global, format: Format) -> Result<Items<u8>, WriteErr> {
     let mut writer = Writer::new(alloc, format, Separators::default())?;
-    for text in ["a;b\"", ""] {
-        writer.text(text)?;
-        writer.end_line()?;
-    }
+    writer.text("a;b\"")?;
+    writer.end_line()?;
+    writer.text("")?;
+    writer.end_line()?;
     writer.finish()
 }
 
