@@ -1,9 +1,9 @@
 -- Lines of one text each, written over bytes that are there.
-use Rattle.std.proofs.Common.{◌≡◌, ℕ, zero, suc, ◌+◌, ◌-◌, ◌<◌, ◌≤◌, ◌||◌, nat_lt, List, [], ◌∷◌, ◌++◌, drop, length, map, slice_set, take, refl, subst, sym, ap, ap₂, ◌∙◌, append_assoc, arith, length-drop}
+use Rattle.std.proofs.Common.{◌≡◌, ℕ, zero, suc, ◌+◌, ◌-◌, ◌<◌, ◌≤◌, ◌||◌, ◌⊎◌, inl, inr, nat_lt, List, [], ◌∷◌, ◌++◌, drop, length, map, slice_set, take, refl, subst, sym, ap, ap₂, ◌∙◌, append_assoc, arith, length-drop}
 use Rattle.std.proofs.Math.Seq.{take-add, take_all}
 use Rattle.std.proofs.lemmas.Bool.Decides.{nat_tests}
 use Rattle.std.proofs.lemmas.Grind.{take-set_at}
-use Rattle.std.proofs.lemmas.List.{append-nil, map-append}
+use Rattle.std.proofs.lemmas.List.{append-nil, length-take-le, map-append}
 use Rattle.std.proofs.lemmas.List.Concat.{flat_map-append}
 use Rattle.std.proofs.lemmas.Slice.{take-put_mid}
 use Rattle.std.specs.List.{flat_map}
@@ -11,9 +11,9 @@ use Rattle.lq_records.specs.declared.format.Format.{Format}
 use Rattle.lq_records.specs.declared.format.Format.TheVariants as format
 use Rattle.lq_records.specs.declared.format.Separators.{Separators}
 use Rattle.lq_schema.specs.Value.{Value}
-use Rattle.lq_output.specs.Body.{line_of_values}
+use Rattle.lq_output.specs.Body.{body_limit, line_of_values}
 use Rattle.lq_output.specs.Cells.{joined_texts, plain_line, plain_text}
-use Rattle.lq_output.specs.Writing.{AddsLines, Writing, is_some_of, so_far}
+use Rattle.lq_output.specs.Writing.{AddsLines, HasNoRoom, Writing, is_some_of, so_far}
 use Rattle.lq_output.specs.declared.layout.Layout.{Layout}
 use borrow.Rule.Slice.PartMut.{mid_len, put_mid, same_len_mid}
 
@@ -47,6 +47,34 @@ more_lines line rows done count first mid last before after =
     ∙ append_assoc first (flat_map line (take done rows)) (flat_map line (take count (drop done rows)))
     ∙ ap (λ those. first ++ those)
     (sym (flat_map-append line (take done rows) (take count (drop done rows))) ∙ ap (flat_map line) (sym (take-add done count rows)))
+
+-- ---- where lines stop
+
+-- behind no line the place is that of the first
+pub place_of_none : {Row : Type 0} (line : Row → List ℕ) (rows : List Row) (bytes before : List ℕ) (start end count : ℕ)
+    → count ≡ 0 → start ≤ length before → end ≤ length bytes
+    → take end bytes ≡ take start before ++ flat_map line (take count rows) → end ≡ start
+place_of_none line rows bytes before start end count none fits within is =
+    sym (length-take-le end bytes within)
+    ∙ ap length (is ∙ ap (λ more. take start before ++ flat_map line (take more rows)) none ∙ append-nil (take start before))
+    ∙ length-take-le start before fits
+
+-- a block that begins with a line and has no room for it
+pub no_room : (line : List ℕ) (start end whole count : ℕ) → (whole ≡ body_limit) ⊎ (whole ≡ start + 4096)
+    → end ≡ start → count ≡ end → whole < end + length line → HasNoRoom count line
+no_room line start end whole count (inl limit) same is short = inr (omega (arith, limit, is, short))
+no_room line start end whole count (inr block) same is short = inl (omega (arith, block, same, short))
+
+-- the first of the rows that are left is that of the next block
+pub next_row : {Row : Type 0} (rows later : List Row) (row : Row) (done : ℕ)
+    → drop done rows ≡ row ∷ later → take (length rows - done) (drop done rows) ≡ row ∷ later
+next_row rows later row done is =
+    take_all (length rows - done) (drop done rows) (omega (arith, length-drop done rows)) ∙ is
+
+-- no row is left behind the last one
+pub none_left : {Row : Type 0} (rows later : List Row) (row : Row) (done : ℕ)
+    → length rows ≤ done → drop done rows ≡ row ∷ later → ⊥
+none_left rows later row done all is = omega (arith, length-drop done rows, ap length is, all)
 
 -- ---- the lines that the bytes are
 

@@ -1,6 +1,7 @@
 -- What a writer has written, and which lines and cells that is.
 use Rattle.std.specs.Prelude.{◌≡◌, ℕ, ◌<◌, ◌≤◌, Bool, true, false, List, [], ◌∷◌, ◌++◌, length, map}
-use Rattle.std.specs.Prelude.{if◌then◌else◌}
+use Rattle.std.specs.Prelude.{if◌then◌else◌, ◌⊎◌, ◌+◌}
+use Rattle.lq_records.specs.declared.format.Format.TheVariants as format
 use Rattle.lq_schema.specs.Value.{Value}
 use Rattle.lq_output.specs.Body.{Marks, body_limit, body_text, line_of_values, marks_of}
 use Rattle.lq_output.specs.Cells.{cell_text, joined_texts}
@@ -98,6 +99,15 @@ EndsLine old new =
 abbrev pub AddsLines : Writing → Writing → List (List Value) → Type 0
 AddsLines old new added =
     (lines : List (List Value)) → Writes old lines [] → Writes new (lines ++ added) []
+
+-- whether lines of one text each can be written at once: in csv, where no line is open
+pub record TakesLines (w : Writing) : Type 0 where
+  pub format : w.layout.format ≡ format.Csv
+  pub closed : w.has_cell ≡ false
+
+-- a line for which a body of this many bytes has no room, or that has more than 4,096 itself
+abbrev pub HasNoRoom : ℕ → List ℕ → Type 0
+HasNoRoom count line = (4096 < length line) ⊎ (body_limit < count + length line)
 
 -- the text of the lines, with the open one as if ended where it has a cell, isn't too large
 abbrev pub IsWithinLimit : Writing → Type 0

@@ -1,11 +1,14 @@
-ghost use Rattle.std.specs.Prelude.{◌≡◌, ◌≤◌, ◌∷◌, ◌++◌, [], IfSome, None, length, map, take};
+ghost use Rattle.std.specs.Prelude.{◌≡◌, ◌≤◌, ◌<◌, ◌+◌, ◌⊎◌, List, ◌∷◌, ◌++◌, [], IfOk, OnErr};
+ghost use Rattle.std.specs.Prelude.{IfSome, IsSome, None, drop, length, map, take};
 ghost use Rattle.std.specs.List.{flat_map};
 ghost use Rattle.lq_output.specs.Body.{body_limit};
 ghost use Rattle.lq_output.specs.Cells.{plain_line};
+ghost use Rattle.lq_output.specs.Writing.{HasNoRoom};
 ghost use Rattle.lq_schema.specs.Value.{Value, Words};
 
 use crate::writer::BODY_LIMIT;
 use lq_records::Separators;
+use std::alloc::AllocError;
 
 /// How many bytes a body grows by at once, at most. Lines are then written into them with no look
 /// at the body.
@@ -22,9 +25,14 @@ pub trait LineTexts {
     /// The cell of a row.
     ghost cell: { Self → Self.Row → Value };
 
-    /// The text of a row's cell. It may give None for any row, which is then left to another way.
+    /// Whether a row surely gives its text.
+    ghost gives: { Self → Self.Row → Type 0 };
+
+    /// The text of a row's cell. It may give None for a row that doesn't surely give it, which is
+    /// then left to another way.
     fn text(&self, row: &Self::Row) -> Option<&str>
-        ensures { IfSome result (λ text. cell self.now row.now ≡ Words text.now) };
+        ensures value { IfSome result (λ text. cell self.now row.now ≡ Words text.now) }
+        ensures given { gives self.now row.now → IsSome result };
 }
 
 /// How far lines were written.
@@ -36,30 +44,38 @@ struct Written {
     end: usize,
 }
 
-/// Adds the lines of the first rows to a body of csv, as far as there is memory and the body has
-/// room, and up to the first row that gives no text. Says how many they are.
+/// Adds the lines of the first rows to a body of csv, up to the first row that gives no text or for
+/// whose line there is no room. Says how many they are. After an error the body is as it was.
 #[inline(always)]
 pub(crate) fn push_plain_lines<T: LineTexts>(
     body: &mut Vec<u8>,
     separators: Separators,
     texts: &T,
     rows: &[T::Row],
-) -> usize
+) -> Result<usize, AllocError>
     requires { length body.old.items ≤ body_limit }
-    ensures within { result ≤ length rows.now }
+    ensures within { IfOk result (λ count. count ≤ length rows.now) }
     ensures fits { length body.new.items ≤ body_limit }
-    ensures lines { body.new.items ≡ body.old.items
-        ++ flat_map (λ row. plain_line separators (T.cell texts.now row)) (take result rows.now) }
+    ensures lines { IfOk result (λ count. body.new.items ≡ body.old.items
+        ++ flat_map (λ row. plain_line separators (T.cell texts.now row)) (take count rows.now)) }
+    ensures stop { IfOk result (λ count. (row : T.Row) (later : List T.Row)
+        → drop count rows.now ≡ row ∷ later → T.gives texts.now row
+        → HasNoRoom (length body.new.items) (plain_line separators (T.cell texts.now row))) }
+    ensures err { OnErr result (body.new.items ≡ body.old.items) }
 {
+    let start = body.len();
     let mut done = 0;
     'blocks: while done < rows.len() {
-        let count = push_block(body, separators, texts, &rows[done..]);
+        let Ok(count) = push_block(body, separators, texts, &rows[done..]) else {
+            body.truncate(start);
+            return Err(AllocError);
+        };
         if count == 0 {
-            break;
+            return Ok(done);
         }
         done += count;
     }
-    done
+    Ok(done)
 }
 
 /// The same for as many rows as a block has room for.
@@ -69,22 +85,24 @@ fn push_block<T: LineTexts>(
     separators: Separators,
     texts: &T,
     rows: &[T::Row],
-) -> usize
+) -> Result<usize, AllocError>
     requires { length body.old.items ≤ body_limit }
-    ensures within { result ≤ length rows.now }
+    ensures within { IfOk result (λ count. count ≤ length rows.now) }
     ensures fits { length body.new.items ≤ body_limit }
-    ensures lines { body.new.items ≡ body.old.items
-        ++ flat_map (λ row. plain_line separators (T.cell texts.now row)) (take result rows.now) }
+    ensures lines { IfOk result (λ count. body.new.items ≡ body.old.items
+        ++ flat_map (λ row. plain_line separators (T.cell texts.now row)) (take count rows.now)) }
+    ensures stop { IfOk result (λ count. count ≡ 0 → (row : T.Row) (later : List T.Row)
+        → rows.now ≡ row ∷ later → T.gives texts.now row
+        → HasNoRoom (length body.new.items) (plain_line separators (T.cell texts.now row))) }
+    ensures err { OnErr result (body.new.items ≡ body.old.items) }
 {
     let start = body.len();
     let end = block_end(start);
-    if body.resize(end, 0).is_err() {
-        return 0;
-    }
+    body.resize(end, 0)?;
     let place = Place { start, separators };
     let written = write_lines(body, place, texts, rows);
     body.truncate(written.end);
-    written.rows
+    Ok(written.rows)
 }
 
 /// Where the block ends that begins at a place of a body.
@@ -92,6 +110,7 @@ fn block_end(start: usize) -> usize
     requires { start ≤ body_limit }
     ensures later { start ≤ result }
     ensures fits { result ≤ body_limit }
+    ensures room { (result ≡ body_limit) ⊎ (result ≡ start + 4096) }
 {
     if BODY_LIMIT - start < BLOCK {
         BODY_LIMIT
@@ -119,6 +138,10 @@ fn write_lines<T: LineTexts>(bytes: &mut [u8], place: Place, texts: &T, rows: &[
     ensures lines { take result.end bytes.new ≡ take place.start bytes.old
         ++ flat_map (λ row. plain_line place.separators (T.cell texts.now row))
         (take result.rows rows.now) }
+    ensures stop { (row : T.Row) (later : List T.Row)
+        → drop result.rows rows.now ≡ row ∷ later → T.gives texts.now row
+        → length bytes.new
+        < result.end + length (plain_line place.separators (T.cell texts.now row)) }
 {
     let mut at = place.start;
     for (count, row) in rows.iter().enumerate() {
@@ -150,6 +173,7 @@ fn write_line(bytes: &mut [u8], at: usize, text: &str, end: u8) -> Option<usize>
         (λ next. take next bytes.new ≡ take at bytes.old ++ (text.now ++ end ∷ [])) }
     ensures length { length bytes.new ≡ length bytes.old }
     ensures none { result ≡ None → bytes.new ≡ bytes.old }
+    ensures room { result ≡ None → length bytes.old ≤ at + length text.now }
 {
     let text = text.as_bytes();
     if text.len() >= bytes.len() - at {

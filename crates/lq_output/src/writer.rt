@@ -1,14 +1,15 @@
-ghost use Rattle.std.specs.Prelude.{◌≡◌, ◌+◌, ◌<◌, ◌≤◌, [], ◌∷◌, ◌++◌, length, map, take, true, false};
+ghost use Rattle.std.specs.Prelude.{◌≡◌, ◌+◌, ◌<◌, ◌≤◌, List, [], ◌∷◌, ◌++◌, length, map, take};
+ghost use Rattle.std.specs.Prelude.{drop, true, false};
 ghost use Rattle.std.specs.Prelude.{IfErr, IfOk, OnOk, OnErr, IsOkUnless};
 ghost use Rattle.lq_schema.specs.Value.{Number, Words, meaning_of};
 ghost use Rattle.lq_output.specs.Body.{body_limit, marks_of};
+ghost use Rattle.lq_output.specs.Cells.{plain_line};
 ghost use Rattle.lq_output.specs.CellValue.{value_of_cell};
 ghost use Rattle.lq_output.specs.Escapes.{is_as_it_is};
 ghost use Rattle.lq_output.specs.Spots.{ended_length, text_at};
-ghost use Rattle.lq_output.specs.Writing.{AddsCell, AddsLines, EndsLine};
-ghost use Rattle.lq_output.specs.Writing.{IsTextOfLines, IsTooLargeWith, IsWithinLimit, Writes, whole_body};
-ghost use Rattle.lq_output.specs.Writing.{nothing_written};
-ghost use Rattle.lq_output.specs.Writing.{with_cell, with_line_end};
+ghost use Rattle.lq_output.specs.Writing.{AddsCell, AddsLines, EndsLine, HasNoRoom, TakesLines};
+ghost use Rattle.lq_output.specs.Writing.{IsTextOfLines, IsTooLargeWith, IsWithinLimit, Writes};
+ghost use Rattle.lq_output.specs.Writing.{nothing_written, whole_body, with_cell, with_line_end};
 
 use crate::cell::{Cell, is_as_it_is, push_as_it_is, push_cell};
 use crate::error::WriteErr;
@@ -195,26 +196,38 @@ impl Writer {
     }
 
     /// Adds the lines of the first rows, each of which is the text that the row gives, and says how
-    /// many they are. It may stop at any row: it does at the first that gives no text, where the
-    /// format isn't csv or a line is open, and where the body has no room or there is no memory.
+    /// many they are. It stops at the first row that gives no text, and at a line that has more
+    /// than 4,096 bytes or for which the body has no room. It adds none where there are fewer than
+    /// 16 rows, the format isn't csv, or a line is open. The only error is `Memory`.
     #[inline(always)]
-    pub fn text_lines<T: LineTexts>(&mut self, texts: &T, rows: &[T::Row]) -> usize
-        ensures within { result ≤ length rows.now }
+    pub fn text_lines<T: LineTexts>(
+        &mut self,
+        texts: &T,
+        rows: &[T::Row],
+    ) -> Result<usize, WriteErr>
+        ensures within { IfOk result (λ count. count ≤ length rows.now) }
         ensures layout { self.new.layout ≡ self.old.layout }
-        ensures lines { AddsLines self.old self.new
-            (map (λ row. T.cell texts.now row ∷ []) (take result rows.now)) }
+        ensures lines { IfOk result (λ count. AddsLines self.old self.new
+            (map (λ row. T.cell texts.now row ∷ []) (take count rows.now))) }
+        ensures stop { TakesLines self.old → 16 ≤ length rows.now → IfOk result (λ count.
+            (row : T.Row) (later : List T.Row)
+            → drop count rows.now ≡ row ∷ later → T.gives texts.now row
+            → HasNoRoom (length self.new.body)
+            (plain_line self.old.layout.separators (T.cell texts.now row))) }
+        ensures memory { IsOkUnless result WriteErr.Memory }
+        ensures err { OnErr result (self.new ≡ self.old) }
     {
         if self.has_cell || rows.len() < FEWEST {
-            return 0;
+            return Ok(0);
         }
         match self.layout.format {
             Format::Csv => {
                 let separators = self.layout.separators;
-                let count = push_plain_lines(&mut self.body, separators, texts, rows);
+                let count = push_plain_lines(&mut self.body, separators, texts, rows)?;
                 self.has_line |= count > 0;
-                count
+                Ok(count)
             }
-            Format::Quoted | Format::Json => 0,
+            Format::Quoted | Format::Json => Ok(0),
         }
     }
 

@@ -1,8 +1,8 @@
 ghost use Rattle.std.specs.Prelude.{◌≡◌, ◌-◌, ◌<◌, ◌∷◌, [], ◌≤◌, length, map, take, Err, None};
-ghost use Rattle.std.specs.Prelude.{OnOk, IfSome};
+ghost use Rattle.std.specs.Prelude.{IfOk, IfSome, IsOkUnless, OnOk};
 ghost use Rattle.std.specs.List.{list_any};
 ghost use Rattle.lq_output.specs.Writing.{AddsCell, IsTooLargeWith, with_cell};
-ghost use Rattle.lq_output.specs.declared.error.WriteErr.TheVariants.{TooLarge};
+ghost use Rattle.lq_output.specs.declared.error.WriteErr.TheVariants.{Memory, TooLarge};
 ghost use Rattle.lq_query.specs.Answer.{first_lines};
 ghost use Rattle.lq_query.specs.Rows.{chosen_rows, row_cells};
 ghost use Rattle.lq_query.specs.Lines.{HasLines, IsTooLarge, seen_cells, first_rows};
@@ -107,7 +107,7 @@ impl Page<'_> {
             (map (λ row. row_cells self.now.columns.now (seen_cells self.now.sight row))
             rows.now) }
     {
-        let count = self.push_texts(writer, rows);
+        let count = self.push_texts(writer, rows)?;
         self.push_lines(writer, &rows[count..])
     }
 
@@ -115,15 +115,16 @@ impl Page<'_> {
     /// are. In so short a line the way to the cell and to the line's end costs the most. It stands
     /// apart so that the loop over lines of several cells stays as it is.
     #[inline(never)]
-    fn push_texts(&self, writer: &mut Writer, rows: &[Row]) -> usize
-        ensures within { result ≤ length rows.now }
-        ensures lines { HasLines writer.old writer.new
+    fn push_texts(&self, writer: &mut Writer, rows: &[Row]) -> Result<usize, WriteErr>
+        ensures within { IfOk result (λ count. count ≤ length rows.now) }
+        ensures lines { IfOk result (λ count. HasLines writer.old writer.new
             (map (λ row. row_cells self.now.columns.now (seen_cells self.now.sight row))
-            (take result rows.now)) }
+            (take count rows.now))) }
+        ensures memory { IsOkUnless result Memory }
     {
         match self.text_column() {
             Some(column) => push_text_lines(&self.sight, writer, rows, column),
-            None => 0,
+            None => Ok(0),
         }
     }
 

@@ -1,4 +1,5 @@
-use Rattle.std.proofs.Common.{rules, ◌≡◌, ◌∷◌, [], List, map, subst, sym}
+use Rattle.std.proofs.Common.{rules, ◌≡◌, ◌∷◌, [], List, map, subst, sym, take}
+use Rattle.std.proofs.lemmas.Result.{IfOk-weaker}
 use Rattle.lq_output.specs.Writing.{Writing}
 use Rattle.lq_schema.specs.declared.columns.OwnColumn.{OwnColumn}
 use Rattle.lq_schema.specs.declared.columns.OwnColumn.TheVariants as own
@@ -20,21 +21,27 @@ lines_of sight old new rows asked taken is =
 pub returns-in-Host-Name-clause-lines : goal.returns-in-Host-Name-clause-lines
 returns-in-Host-Name-clause-lines c =
     let is : c.args.column.own ≡ own.Host host_column.Name = search rules in
-    lines_of c.args.sight.now _ _ _ _ _ is c.push_hosts.ensures.lines
+    IfOk-weaker c.push_hosts.result _ _ (λ count. lines_of c.args.sight.now _ _ (take count c.args.rows.now) _ _ is)
+    c.push_hosts.ensures.lines
 
 pub returns-in-Host : goal.returns-in-Host
 returns-in-Host c = record {
   within = c.push_hosts-in-Host.ensures.within;
-  lines = lines_of c.args.sight.now _ _ _ _ _ c.in-Host.is c.push_hosts-in-Host.ensures.lines;
+  lines = IfOk-weaker c.push_hosts-in-Host.result _ _ (λ count. lines_of c.args.sight.now _ _ (take count c.args.rows.now) _ _ c.in-Host.is)
+      c.push_hosts-in-Host.ensures.lines;
+  memory = c.push_hosts-in-Host.ensures.memory;
 }
 
 pub returns-in-Service-Description-clause-lines : goal.returns-in-Service-Description-clause-lines
 returns-in-Service-Description-clause-lines c =
     let is : c.args.column.own ≡ own.Service service_column.Description = search rules in
-    lines_of c.args.sight.now _ _ _ _ _ is c.push_services.ensures.lines
+    IfOk-weaker c.push_services.result _ _ (λ count. lines_of c.args.sight.now _ _ (take count c.args.rows.now) _ _ is)
+    c.push_services.ensures.lines
 
 pub returns-in-Service : goal.returns-in-Service
 returns-in-Service c = record {
   within = c.push_services-in-Service.ensures.within;
-  lines = lines_of c.args.sight.now _ _ _ _ _ c.in-Service.is c.push_services-in-Service.ensures.lines;
+  lines = IfOk-weaker c.push_services-in-Service.result _ _ (λ count. lines_of c.args.sight.now _ _ (take count c.args.rows.now) _ _ c.in-Service.is)
+      c.push_services-in-Service.ensures.lines;
+  memory = c.push_services-in-Service.ensures.memory;
 }

@@ -8,11 +8,11 @@ use Rattle.lq_query.proofs.page.Page.push_each.Goals as goal
 pub returns-clause-lines : goal.returns-clause-lines
 returns-clause-lines c =
     on_ok_weaker c.push_lines.result
-    (rest_added (λ (row : Row). row_cells c.args.self.now.columns.now (seen_cells c.args.self.now.sight row)) c.args.rows.now c.push_texts-count.result
-    _ _ c.push_texts-count.ensures.lines _)
+    (rest_added (λ (row : Row). row_cells c.args.self.now.columns.now (seen_cells c.args.self.now.sight row)) c.args.rows.now c.in_ok-count.count
+    _ _ c.in_ok-count.ensures.lines _)
     c.push_lines.ensures.lines
 
 pub returns-clause-large : goal.returns-clause-large
 returns-clause-large c = λ large.
-    rest_large (λ (row : Row). row_cells c.args.self.now.columns.now (seen_cells c.args.self.now.sight row)) c.args.rows.now c.push_texts-count.result
-    _ _ c.push_texts-count.ensures.lines (c.push_lines.ensures.large large)
+    rest_large (λ (row : Row). row_cells c.args.self.now.columns.now (seen_cells c.args.self.now.sight row)) c.args.rows.now c.in_ok-count.count
+    _ _ c.in_ok-count.ensures.lines (c.push_lines.ensures.large large)
