@@ -2,6 +2,8 @@
 
 use crate::fixture::{Asked, SITE, Site, assert_asked, assert_same, push_all};
 use std::alloc::{AllocError, Global};
+use std::ops::Range;
+use std::process::Abort;
 use std::test::Fail;
 
 /// web2 is down. web1 has a comment of a quote, a character of two bytes, a tab and `!`; http has
@@ -262,4 +264,56 @@ fn names_of_many_hosts_are_a_line_each(rt: HostRuntime) -> Result<(), Fail> {
         assert_same(&rt, reply.as_str(), expected.as_str(), query);
     }
     Ok(())
+}
+
+// ---- the largest body of one column
+
+/// The numbers with which the names begin that fill the largest body. With the byte that ends its
+/// line each but the last name takes 1,000 bytes of the 8,388,608.
+const FILLING: Range<u32> = 1_000..9_388;
+
+/// Adds a name, of its number and what follows that, between two texts.
+fn push_name(
+    names: &mut String,
+    (front, end): (&str, &str),
+    number: &str,
+    rest: &str,
+) -> Result<(), AllocError> {
+    names.push_str(front)?;
+    names.push_str(number)?;
+    names.push_str(rest)?;
+    names.push_str(end)
+}
+
+/// The names, of which the last has a number of bytes, each between two texts.
+fn long_names(alloc: Global, last: usize, around: (&str, &str)) -> Result<String, AllocError> {
+    let mut names = String::new(alloc);
+    let rest = "x".repeat(alloc, 995)?;
+    for number in FILLING {
+        let digits = number.to_string(alloc)?;
+        push_name(&mut names, around, digits.as_str(), rest.as_str())?;
+    }
+    let rest = "x".repeat(alloc, last.saturating_sub(4))?;
+    push_name(&mut names, around, "9388", rest.as_str())?;
+    Ok(names)
+}
+
+/// Compares what a query of the names is answered where the last one has a number of bytes.
+fn assert_filled<R: Abort + AllocGlobal>(rt: &R, last: usize, expected: &str) -> Result<(), Fail> {
+    let objects = long_names(rt.alloc(), last, ("define host {\nhost_name ", "\n}\n"))?;
+    let site = Site::open(rt.alloc(), b"", objects.as_bytes())?;
+    let reply = site.ask(rt.alloc(), "GET hosts\nColumns: name")?;
+    assert!(rt;
+        reply.as_str() == expected,
+        "where the last name has {last} bytes"
+    );
+    Ok(())
+}
+
+#[test]
+fn names_have_8_388_608_bytes_at_most(rt: HostRuntime) -> Result<(), Fail> {
+    let most = long_names(rt.alloc(), 607, ("", "\n"))?;
+    assert!(rt; most.len() == 8_388_608);
+    assert_filled(&rt, 607, most.as_str())?;
+    assert_filled(&rt, 608, "too large")
 }
