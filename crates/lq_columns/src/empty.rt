@@ -6,7 +6,6 @@ ghost use Rattle.lq_columns.specs.Plain.{HasNumbers, HasTexts};
 
 use lq_records::Items;
 use lq_schema::{ColKind, Val};
-use std::alloc::Global;
 
 /// 1 where something holds, else 0.
 pub fn flag(holds: bool) -> i128
@@ -17,15 +16,15 @@ pub fn flag(holds: bool) -> i128
 
 /// The value of a cell without an object, by the kind of its column: 0, an empty text or an empty
 /// list. It takes no memory.
-pub fn empty_value(alloc: Global, kind: ColKind) -> Val<'static>
+pub fn empty_value(kind: ColKind) -> Val<'static>
     ensures { meaning_of result ≡ empty_value kind }
 {
     match kind {
         ColKind::Int => Val::Int(0),
         ColKind::Str => Val::Str(""),
-        ColKind::List => Val::List(Items::new(alloc)),
-        ColKind::Nums => Val::Nums(Items::new(alloc)),
-        ColKind::Pairs => Val::Pairs(Items::new(alloc)),
+        ColKind::List => Val::List(Items::default()),
+        ColKind::Nums => Val::Nums(Items::default()),
+        ColKind::Pairs => Val::Pairs(Items::default()),
     }
 }
 

@@ -168,10 +168,10 @@ pub fn host_value<'a>(
     ensures plain { IsPlain (own_kind c.own) → IsOk result }
 {
     let OwnColumn::Host(column) = c.own else {
-        return Ok(empty_value(alloc, kind(c)));
+        return Ok(empty_value(kind(c)));
     };
     match HostRow::at(live, id) {
         Some(row) => row.value(alloc, live, view, column),
-        None => Ok(empty_value(alloc, kind(c))),
+        None => Ok(empty_value(kind(c))),
     }
 }

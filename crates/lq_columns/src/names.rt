@@ -79,9 +79,9 @@ impl Named for ContactGroupId {
 pub fn names_of<I: Named>(alloc: Global, base: &Base, ids: &[I]) -> Result<Items<Text>, Memory>
     ensures { IfOk result (λ names. names ≡ filter_map (I.name_of base.now) ids.now) }
 {
-    let mut names = Items::new(alloc);
+    let mut names = Items::default();
     for id in ids {
-        push_name(&mut names, id.name(base))?;
+        push_name(alloc, &mut names, id.name(base))?;
     }
     Ok(names)
 }
@@ -103,13 +103,13 @@ fn has_own_name<I: Named>(base: &Base, id: I, name: &str) -> bool
 }
 
 /// Adds a name, where there is one. The text is shared.
-fn push_name(names: &mut Items<Text>, name: Option<&Text>) -> Result<(), Memory>
+fn push_name(alloc: Global, names: &mut Items<Text>, name: Option<&Text>) -> Result<(), Memory>
     ensures { OnOk result (names.new ≡ names.old ++ option_to_list (option_copied name.entry)) }
 {
     let Some(name) = name else {
         return Ok(());
     };
-    names.push(name.clone()?)
+    names.push(alloc, name.clone()?)
 }
 
 // ---- groups that list an object
@@ -127,9 +127,9 @@ pub(crate) fn group_names(alloc: Global, base: &Base, about: Object) -> Result<I
 fn names_with_host(alloc: Global, groups: &[HostGroup], id: HostId) -> Result<Items<Text>, Memory>
     ensures { IfOk result (λ names. names ≡ filter_map (name_with_host id) groups.now) }
 {
-    let mut names = Items::new(alloc);
+    let mut names = Items::default();
     for group in groups {
-        push_name(&mut names, name_with_host(group, id))?;
+        push_name(alloc, &mut names, name_with_host(group, id))?;
     }
     Ok(names)
 }
@@ -158,9 +158,9 @@ fn names_with_service(
 ) -> Result<Items<Text>, Memory>
     ensures { IfOk result (λ names. names ≡ filter_map (name_with_service id) groups.now) }
 {
-    let mut names = Items::new(alloc);
+    let mut names = Items::default();
     for group in groups {
-        push_name(&mut names, name_with_service(group, id))?;
+        push_name(alloc, &mut names, name_with_service(group, id))?;
     }
     Ok(names)
 }
@@ -266,10 +266,11 @@ fn seen_services(
 pub(crate) fn variable_names(alloc: Global, fields: &ObjectFields) -> Result<Items<Text>, Memory>
     ensures { IfOk result (λ names. names ≡ variable_names_of fields.now) }
 {
-    let mut names = Items::new(alloc);
+    let mut names = Items::default();
     let variables = fields.custom_variables.as_slice();
     for variable in variables {
-        names.push(Text::new(alloc, without_underscore(variable.0.as_str()))?)?;
+        let name = without_underscore(variable.0.as_str());
+        names.push(alloc, Text::new(alloc, name)?)?;
     }
     Ok(names)
 }
@@ -287,10 +288,10 @@ fn without_underscore(name: &str) -> &str
 pub(crate) fn variable_values(alloc: Global, fields: &ObjectFields) -> Result<Items<Text>, Memory>
     ensures { IfOk result (λ values. values ≡ variable_values_of fields.now) }
 {
-    let mut values = Items::new(alloc);
+    let mut values = Items::default();
     let variables = fields.custom_variables.as_slice();
     for variable in variables {
-        values.push(variable.1.clone()?)?;
+        values.push(alloc, variable.1.clone()?)?;
     }
     Ok(values)
 }

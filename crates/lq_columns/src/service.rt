@@ -152,10 +152,10 @@ pub fn service_value<'a>(
     ensures plain { IsPlain (own_kind c.own) → IsOk result }
 {
     let OwnColumn::Service(column) = c.own else {
-        return Ok(empty_value(alloc, kind(c)));
+        return Ok(empty_value(kind(c)));
     };
     match ServiceRow::at(live, id) {
         Some(row) => row.value(alloc, live, column),
-        None => Ok(empty_value(alloc, kind(c))),
+        None => Ok(empty_value(kind(c))),
     }
 }

@@ -6,14 +6,14 @@ ghost use Rattle.lq_filter.specs.Trees.{HasColumn, holds, truth_on};
 use crate::cells::Cells;
 use crate::node::Node;
 use crate::ready::{ReadyFilter, ready_filter};
-use lq_records::Memory;
+use lq_records::{Items, Memory};
 use std::alloc::Global;
 use std::marker::Model;
 
 /// Which rows are chosen. Contracts see it as the list of its headers, in the order of their lines.
 #[derive(Drop)]
 pub struct Filter {
-    nodes: Vec<Node>,
+    nodes: Items<Node>,
 }
 
 impl Model for Filter {
@@ -23,9 +23,20 @@ impl Model for Filter {
 
     ghost Value = { List Header };
 
-    ghost view = { λ filter. headers_of_nodes filter.nodes.items };
+    ghost view = { λ filter. headers_of_nodes filter.nodes };
 
-    ghost invariant = { λ filter. AreLinkedTrees filter.nodes.items };
+    ghost invariant = { λ filter. AreLinkedTrees filter.nodes };
+}
+
+impl Default for Filter {
+    ghost is_default = { λ filter. filter ≡ [] };
+
+    /// The filter without a header, which chooses each row. It takes no memory.
+    fn default() -> Self {
+        Filter {
+            nodes: Items::default(),
+        }
+    }
 }
 
 impl Filter {
@@ -33,15 +44,8 @@ impl Filter {
         requires { AreLinkedTrees nodes.items }
         ensures { result ≡ headers_of_nodes nodes.items }
     {
-        Filter { nodes }
-    }
-
-    /// The filter without a header, which chooses each row. It takes no memory.
-    pub fn everything(alloc: Global) -> Self
-        ensures { result ≡ [] }
-    {
         Filter {
-            nodes: Vec::new(alloc),
+            nodes: Items::from_vec(nodes),
         }
     }
 
@@ -58,7 +62,7 @@ impl Filter {
     pub fn ready(&self, alloc: Global) -> Result<ReadyFilter<'_>, Memory>
         ensures { IfOk result (λ ready. ready ≡ self.now) }
     {
-        ready_filter(alloc, &self.nodes)
+        ready_filter(alloc, self.nodes.as_slice())
     }
 
     /// Whether a row is chosen. It makes a matcher for each pattern, and drops it. The only error

@@ -91,19 +91,19 @@ fn clones_and_ends_of_a_text_want_no_memory(rt: HostRuntime) -> Result<(), Fail>
 }
 
 impl Call for Items<[u64; 4]> {
-    fn make(&mut self, _alloc: Global) -> Result<bool, AllocError> {
-        self.push([7; 4])?;
+    fn make(&mut self, alloc: Global) -> Result<bool, AllocError> {
+        self.push(alloc, [7; 4])?;
         Ok(true)
     }
 }
 
 #[test]
 fn a_list_that_finds_no_memory_stays_as_it_was(rt: HostRuntime) -> Result<(), Fail> {
-    let mut items = Items::new(rt.alloc());
+    let mut items = Items::default();
     let count = successes(rt.alloc(), 8, &mut items)?;
     assert!(rt; is_late(count) && items.len() == count, "{count}");
     assert!(rt; items.as_slice().last() == Some(&[7; 4]));
-    items.push([8; 4])?;
+    items.push(rt.alloc(), [8; 4])?;
     assert!(rt; items.len() == count.saturating_add(1));
     assert!(rt; items.as_slice()[count] == [8; 4]);
     Ok(())
@@ -139,7 +139,7 @@ fn names_that_find_no_memory_stay_as_they_were(rt: HostRuntime) -> Result<(), Fa
 }
 
 /// What a host has that says nothing of itself.
-fn no_fields(alloc: Global) -> ObjectFields {
+fn no_fields() -> ObjectFields {
     ObjectFields {
         display_name: Text::empty(),
         check_command: Text::empty(),
@@ -147,13 +147,13 @@ fn no_fields(alloc: Global) -> ObjectFields {
         notification_period: Text::empty(),
         max_check_attempts: 1,
         notifications_enabled: 1,
-        contacts: Items::new(alloc),
-        contact_groups: Items::new(alloc),
+        contacts: Items::default(),
+        contact_groups: Items::default(),
         notes: Text::empty(),
         notes_url: Text::empty(),
         action_url: Text::empty(),
         icon_image: Text::empty(),
-        custom_variables: Items::new(alloc),
+        custom_variables: Items::default(),
     }
 }
 
@@ -179,8 +179,8 @@ fn numbered_hosts(alloc: Global) -> Result<NamedItems<Host>, AllocError> {
             host_name,
             alias: Text::empty(),
             address: Text::empty(),
-            parents: Items::new(alloc),
-            fields: no_fields(alloc),
+            parents: Items::default(),
+            fields: no_fields(),
         })?;
     }
     Ok(NamedItems::new(hosts, names.into_names()))

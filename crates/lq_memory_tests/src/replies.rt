@@ -85,7 +85,7 @@ fn row_count<G: Ledger>(
     let window = Window {
         from: 0,
         until: 1,
-        names: Names::none(alloc),
+        names: Names::default(),
     };
     let mut steps = Steps::<G>::new(blank);
     match rows(alloc, live, table, &window, &View::All, &mut steps) {

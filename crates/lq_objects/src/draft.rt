@@ -13,7 +13,7 @@ use lq_records::{
 use std::alloc::{AllocError, Global};
 
 /// The objects of a base that is being read.
-#[derive(Drop)]
+#[derive(Drop, Default)]
 pub(crate) struct Draft {
     pub(crate) hosts: Items<Host>,
     pub(crate) services: Items<Service>,
@@ -30,19 +30,12 @@ impl Draft {
     ghost use Rattle.lq_objects.specs.Drafts.{base_of_draft, count_of_kind};
 
     /// No objects. It takes no memory.
-    pub(crate) fn new(alloc: Global, rules: Rules) -> Self
+    pub(crate) fn new(rules: Rules) -> Self
         ensures { (names : Kind → List Name) → base_of_draft result ≡ objects_of names rules [] }
     {
         Draft {
-            hosts: Items::new(alloc),
-            services: Items::new(alloc),
-            host_groups: Items::new(alloc),
-            service_groups: Items::new(alloc),
-            contacts: Items::new(alloc),
-            contact_groups: Items::new(alloc),
-            periods: Items::new(alloc),
-            commands: Items::new(alloc),
             rules,
+            ..Draft::default()
         }
     }
 
@@ -69,12 +62,15 @@ impl Draft {
         ensures { IfOk result (λ base. base ≡ base_of_draft self) }
     {
         Ok(Base {
-            hosts: MonitoredItems::new(alloc, named_items(self.hosts, names.hosts))?,
-            services: MonitoredItems::new(alloc, named_items(self.services, names.services))?,
-            host_groups: named_items(self.host_groups, names.host_groups),
-            service_groups: named_items(self.service_groups, names.service_groups),
-            contacts: named_items(self.contacts, names.contacts),
-            contact_groups: named_items(self.contact_groups, names.contact_groups),
+            hosts: MonitoredItems::new(alloc, named_items(alloc, self.hosts, names.hosts))?,
+            services: MonitoredItems::new(
+                alloc,
+                named_items(alloc, self.services, names.services),
+            )?,
+            host_groups: named_items(alloc, self.host_groups, names.host_groups),
+            service_groups: named_items(alloc, self.service_groups, names.service_groups),
+            contacts: named_items(alloc, self.contacts, names.contacts),
+            contact_groups: named_items(alloc, self.contact_groups, names.contact_groups),
             periods: self.periods,
             commands: self.commands,
             rules: self.rules,
@@ -83,9 +79,13 @@ impl Draft {
 }
 
 /// Objects in order, which are found by names that are theirs. It takes no memory.
-fn named_items<T: NamedObject>(items: Items<T>, names: NameIndex) -> NamedItems<T>
+fn named_items<T: NamedObject + Drop>(
+    alloc: Global,
+    items: Items<T>,
+    names: NameIndex,
+) -> NamedItems<T>
     requires { map both_parts names ≡ map T.name_of items }
     ensures { result ≡ items }
 {
-    NamedItems::new(items.into_vec(), names.into_names())
+    NamedItems::new(items.into_vec(alloc), names.into_names())
 }

@@ -64,7 +64,7 @@ fn draft_of(
     ensures draft { IfOk result
         (λ draft. base_of_draft draft ≡ objects_of (names_in directory.now) rules blocks.now) }
 {
-    let mut draft = Draft::new(texts.alloc(), rules);
+    let mut draft = Draft::new(rules);
     for block in blocks {
         let kind = block.kind();
         let reader = Reader {
@@ -116,15 +116,16 @@ impl<'r, 'a> Reader<'r, 'a> {
         ensures unknown { MakesUnless result (lacks_any_named
             (names_in self.now.directory.now) self.now.lines.now (references kind)) }
     {
+        let alloc = self.texts.alloc();
         match kind {
-            Kind::Host => draft.hosts.push(self.host()?)?,
-            Kind::Service => draft.services.push(self.service()?)?,
-            Kind::HostGroup => draft.host_groups.push(self.host_group()?)?,
-            Kind::ServiceGroup => draft.service_groups.push(self.service_group()?)?,
-            Kind::Contact => draft.contacts.push(self.contact()?)?,
-            Kind::ContactGroup => draft.contact_groups.push(self.contact_group()?)?,
-            Kind::Period => draft.periods.push(self.period()?)?,
-            Kind::Command => draft.commands.push(self.command()?)?,
+            Kind::Host => draft.hosts.push(alloc, self.host()?)?,
+            Kind::Service => draft.services.push(alloc, self.service()?)?,
+            Kind::HostGroup => draft.host_groups.push(alloc, self.host_group()?)?,
+            Kind::ServiceGroup => draft.service_groups.push(alloc, self.service_group()?)?,
+            Kind::Contact => draft.contacts.push(alloc, self.contact()?)?,
+            Kind::ContactGroup => draft.contact_groups.push(alloc, self.contact_group()?)?,
+            Kind::Period => draft.periods.push(alloc, self.period()?)?,
+            Kind::Command => draft.commands.push(alloc, self.command()?)?,
         }
         Ok(())
     }
@@ -180,7 +181,6 @@ impl<'r, 'a> Reader<'r, 'a> {
     fn numbers(&self) -> ObjectFields
         ensures { result ≡ numbers_of self.now.lines.now }
     {
-        let alloc = self.texts.alloc();
         ObjectFields {
             display_name: Text::empty(),
             check_command: Text::empty(),
@@ -198,13 +198,13 @@ impl<'r, 'a> Reader<'r, 'a> {
                 Directive::NotificationsEnabled,
                 self.lines,
             ) as u8,
-            contacts: Items::new(alloc),
-            contact_groups: Items::new(alloc),
+            contacts: Items::default(),
+            contact_groups: Items::default(),
             notes: Text::empty(),
             notes_url: Text::empty(),
             action_url: Text::empty(),
             icon_image: Text::empty(),
-            custom_variables: Items::new(alloc),
+            custom_variables: Items::default(),
         }
     }
 

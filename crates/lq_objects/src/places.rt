@@ -38,7 +38,7 @@ pub(crate) fn ids<T: Id>(
         (lacks_named (names_in directory.now) lines.now reference) }
 {
     let Some(value) = directive(reference.directive(), lines) else {
-        return Ok(Items::new(texts.alloc()));
+        return Ok(Items::default());
     };
     let Some(names) = named_in(texts, reference, value)? else {
         return Err(ObjectErr::UnknownName);
@@ -133,9 +133,9 @@ pub(crate) fn host_place(
 fn id_at<T: Id>(alloc: Global, place: Option<u32>) -> Result<Items<T>, AllocError>
     ensures { IfOk result (λ ids. ids ≡ map T.id_at (option_to_list place)) }
 {
-    let mut ids = Items::new(alloc);
+    let mut ids = Items::default();
     if let Some(place) = place {
-        ids.push(T::at(place))?;
+        ids.push(alloc, T::at(place))?;
     }
     Ok(ids)
 }

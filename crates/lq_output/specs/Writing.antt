@@ -105,6 +105,10 @@ pub record TakesLines (w : Writing) : Type 0 where
   pub format : w.layout.format ≡ format.Csv
   pub closed : w.has_cell ≡ false
 
+-- what holds of the first of the rows that are left, where some are
+abbrev pub OfFirst : {Row : Type 0} → List Row → (Row → Type 0) → Type 0
+OfFirst left Holds = (row : _) (later : List _) → left ≡ row ∷ later → Holds row
+
 -- a line for which a body of this many bytes has no room, or that has more than 4,096 itself
 abbrev pub HasNoRoom : ℕ → List ℕ → Type 0
 HasNoRoom count line = (4096 < length line) ⊎ (body_limit < count + length line)

@@ -31,7 +31,7 @@ pub fn refusal(alloc: Global, refused: &Refusal, on: bool) -> Result<Items<u8>, 
     ensures { IfOk result (λ bytes. bytes ≡ refusal_text refused.now on) }
 {
     if !on {
-        return Ok(Items::new(alloc));
+        return Ok(Items::default());
     }
     let text = refused.text.as_str().as_bytes();
     let mut bytes = Vec::with_capacity(alloc, text.len() + 17)?;

@@ -1,9 +1,9 @@
-ghost use Rattle.std.specs.Prelude.{◌≡◌, ◌≤◌, ◌<◌, ◌+◌, ◌⊎◌, List, ◌∷◌, ◌++◌, [], IfOk, OnErr};
+ghost use Rattle.std.specs.Prelude.{◌≡◌, ◌≤◌, ◌<◌, ◌+◌, ◌⊎◌, ◌∷◌, ◌++◌, [], IfOk, OnErr};
 ghost use Rattle.std.specs.Prelude.{IfSome, IsSome, None, drop, length, map, take};
 ghost use Rattle.std.specs.List.{flat_map};
 ghost use Rattle.lq_output.specs.Body.{body_limit};
 ghost use Rattle.lq_output.specs.Cells.{plain_line};
-ghost use Rattle.lq_output.specs.Writing.{HasNoRoom};
+ghost use Rattle.lq_output.specs.Writing.{HasNoRoom, OfFirst};
 ghost use Rattle.lq_schema.specs.Value.{Value, Words};
 
 use crate::writer::BODY_LIMIT;
@@ -58,9 +58,9 @@ pub(crate) fn push_plain_lines<T: LineTexts>(
     ensures fits { length body.new.items ≤ body_limit }
     ensures lines { IfOk result (λ count. body.new.items ≡ body.old.items
         ++ flat_map (λ row. plain_line separators (T.cell texts.now row)) (take count rows.now)) }
-    ensures stop { IfOk result (λ count. (row : T.Row) (later : List T.Row)
-        → drop count rows.now ≡ row ∷ later → T.gives texts.now row
-        → HasNoRoom (length body.new.items) (plain_line separators (T.cell texts.now row))) }
+    ensures stop { IfOk result (λ count.
+        OfFirst (drop count rows.now) (λ row. T.gives texts.now row
+        → HasNoRoom (length body.new.items) (plain_line separators (T.cell texts.now row)))) }
     ensures err { OnErr result (body.new.items ≡ body.old.items) }
 {
     let start = body.len();
@@ -91,9 +91,9 @@ fn push_block<T: LineTexts>(
     ensures fits { length body.new.items ≤ body_limit }
     ensures lines { IfOk result (λ count. body.new.items ≡ body.old.items
         ++ flat_map (λ row. plain_line separators (T.cell texts.now row)) (take count rows.now)) }
-    ensures stop { IfOk result (λ count. count ≡ 0 → (row : T.Row) (later : List T.Row)
-        → rows.now ≡ row ∷ later → T.gives texts.now row
-        → HasNoRoom (length body.new.items) (plain_line separators (T.cell texts.now row))) }
+    ensures stop { IfOk result (λ count. count ≡ 0 →
+        OfFirst rows.now (λ row. T.gives texts.now row
+        → HasNoRoom (length body.new.items) (plain_line separators (T.cell texts.now row)))) }
     ensures err { OnErr result (body.new.items ≡ body.old.items) }
 {
     let start = body.len();
@@ -138,10 +138,9 @@ fn write_lines<T: LineTexts>(bytes: &mut [u8], place: Place, texts: &T, rows: &[
     ensures lines { take result.end bytes.new ≡ take place.start bytes.old
         ++ flat_map (λ row. plain_line place.separators (T.cell texts.now row))
         (take result.rows rows.now) }
-    ensures stop { (row : T.Row) (later : List T.Row)
-        → drop result.rows rows.now ≡ row ∷ later → T.gives texts.now row
+    ensures stop { OfFirst (drop result.rows rows.now) (λ row. T.gives texts.now row
         → length bytes.new
-        < result.end + length (plain_line place.separators (T.cell texts.now row)) }
+        < result.end + length (plain_line place.separators (T.cell texts.now row))) }
 {
     let mut at = place.start;
     for (count, row) in rows.iter().enumerate() {

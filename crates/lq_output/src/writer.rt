@@ -1,4 +1,4 @@
-ghost use Rattle.std.specs.Prelude.{◌≡◌, ◌+◌, ◌<◌, ◌≤◌, List, [], ◌∷◌, ◌++◌, length, map, take};
+ghost use Rattle.std.specs.Prelude.{◌≡◌, ◌+◌, ◌<◌, ◌≤◌, [], ◌∷◌, ◌++◌, length, map, take};
 ghost use Rattle.std.specs.Prelude.{drop, true, false};
 ghost use Rattle.std.specs.Prelude.{IfErr, IfOk, OnOk, OnErr, IsOkUnless};
 ghost use Rattle.lq_schema.specs.Value.{Number, Words, meaning_of};
@@ -7,9 +7,10 @@ ghost use Rattle.lq_output.specs.Cells.{plain_line};
 ghost use Rattle.lq_output.specs.CellValue.{value_of_cell};
 ghost use Rattle.lq_output.specs.Escapes.{is_as_it_is};
 ghost use Rattle.lq_output.specs.Spots.{ended_length, text_at};
-ghost use Rattle.lq_output.specs.Writing.{AddsCell, AddsLines, EndsLine, HasNoRoom, TakesLines};
-ghost use Rattle.lq_output.specs.Writing.{IsTextOfLines, IsTooLargeWith, IsWithinLimit, Writes};
-ghost use Rattle.lq_output.specs.Writing.{nothing_written, whole_body, with_cell, with_line_end};
+ghost use Rattle.lq_output.specs.Writing.{AddsCell, AddsLines, EndsLine, HasNoRoom, OfFirst};
+ghost use Rattle.lq_output.specs.Writing.{IsTextOfLines, IsTooLargeWith, IsWithinLimit, TakesLines};
+ghost use Rattle.lq_output.specs.Writing.{Writes, nothing_written, whole_body, with_cell};
+ghost use Rattle.lq_output.specs.Writing.{with_line_end};
 
 use crate::cell::{Cell, is_as_it_is, push_as_it_is, push_cell};
 use crate::error::WriteErr;
@@ -210,10 +211,9 @@ impl Writer {
         ensures lines { IfOk result (λ count. AddsLines self.old self.new
             (map (λ row. T.cell texts.now row ∷ []) (take count rows.now))) }
         ensures stop { TakesLines self.old → 16 ≤ length rows.now → IfOk result (λ count.
-            (row : T.Row) (later : List T.Row)
-            → drop count rows.now ≡ row ∷ later → T.gives texts.now row
+            OfFirst (drop count rows.now) (λ row. T.gives texts.now row
             → HasNoRoom (length self.new.body)
-            (plain_line self.old.layout.separators (T.cell texts.now row))) }
+            (plain_line self.old.layout.separators (T.cell texts.now row)))) }
         ensures memory { IsOkUnless result WriteErr.Memory }
         ensures err { OnErr result (self.new ≡ self.old) }
     {

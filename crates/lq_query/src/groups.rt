@@ -247,9 +247,9 @@ fn new_groups(alloc: Global, keys: usize, stats: &[StatEntry]) -> Result<Groups,
         ≡ record { keys = keys; entries = map stat_kind stats.now }) }
     ensures next { IfOk result (λ groups. groups.next ≡ []) }
 {
-    let mut entries = Items::new(alloc);
+    let mut entries = Items::default();
     for entry in stats {
-        entries.push(kind_of(entry))?;
+        entries.push(alloc, kind_of(entry))?;
     }
     Groups::new(alloc, &StatsSpec { keys, entries })
 }

@@ -226,10 +226,9 @@ fn with_header(alloc: Global, body: Items<u8>) -> Result<Items<u8>, Memory>
     requires { length body ≤ body_limit }
     ensures { IfOk result (λ bytes. bytes ≡ with_fixed_header true body) }
 {
-    let body = body.into_vec();
     let mut bytes = Vec::with_capacity(alloc, body.len() + 16)?;
     bytes.extend_from_slice(&fixed16(OK, body.len() as u64))?;
-    bytes.extend_from_slice(&body)?;
+    bytes.extend_from_slice(body.as_slice())?;
     Ok(Items::from_vec(bytes))
 }
 

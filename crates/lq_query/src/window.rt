@@ -34,9 +34,9 @@ fn copy_of_names(alloc: Global, names: &Names) -> Result<Names, Memory>
 fn copy_of_texts(alloc: Global, texts: &[Text]) -> Result<Items<Text>, Memory>
     ensures { IfOk result (λ copy. copy ≡ texts.now) }
 {
-    let mut copy = Items::new(alloc);
+    let mut copy = Items::default();
     for text in texts {
-        copy.push(copy_of_text(text)?)?;
+        copy.push(alloc, copy_of_text(text)?)?;
     }
     Ok(copy)
 }

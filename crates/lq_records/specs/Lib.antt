@@ -1,6 +1,7 @@
 pub mod Clean
 pub mod Contacts
 pub mod Formats
+pub mod Items
 pub mod Micros
 pub mod Object
 pub mod Places

@@ -1,7 +1,8 @@
-/// The format of a reply's body.
-#[derive(Clone, Copy)]
+/// The format of a reply's body. By default it is `csv`.
+#[derive(Clone, Copy, Default)]
 pub enum Format {
     /// `csv`: separators of one byte, and nothing quoted.
+    #[default]
     Csv,
     /// `CSV`: the fields and lines of RFC 4180.
     Quoted,

@@ -1,4 +1,4 @@
-ghost use Rattle.std.specs.Prelude.{◌≡◌, List, [], ◌∷◌, ◌++◌, length, ◌↔◌, IsTrue, OnOk, OnErr};
+ghost use Rattle.std.specs.Prelude.{◌≡◌, [], ◌∷◌, ◌++◌, length, ◌↔◌, IsTrue, OnOk, OnErr};
 
 use crate::Memory;
 use std::alloc::Global;
@@ -6,50 +6,75 @@ use std::hash::{Hash, Hasher};
 use std::marker::Model;
 
 /// A list in a field of the data. Contracts see it as the list of its items.
-#[derive(Drop)]
+///
+/// Its default is the list with no items, which takes no memory and no allocator.
 pub struct Items<T> {
-    inner: Vec<T>,
+    /// None until the first item is added.
+    inner: Option<Vec<T>>,
+}
+
+// Written by hand: where one is dropped a proof then meets a call, and not each of its forms.
+impl<T: Drop> Drop for Items<T> {
+    fn drop(self) {
+        let Items { inner: _inner } = self;
+    }
 }
 
 impl<T> Model for Items<T> {
+    ghost use Rattle.std.specs.Prelude.{List};
+    ghost use Rattle.lq_records.specs.Items.{items_in};
+
     ghost Value = { List T };
 
-    ghost view = { λ items. items.inner.items };
+    ghost view = { λ list. items_in list.inner };
+}
+
+impl<T> Default for Items<T> {
+    ghost is_default = { λ list. list ≡ [] };
+
+    /// No items. It takes no memory.
+    fn default() -> Self {
+        Items { inner: None }
+    }
 }
 
 impl<T> Items<T> {
-    /// No items. It takes no memory.
-    pub fn new(alloc: Global) -> Self
-        ensures { result ≡ [] }
-    {
-        Items {
-            inner: Vec::new(alloc),
-        }
-    }
-
     /// The items of a vector, in its order. It takes no memory.
     pub fn from_vec(inner: Vec<T>) -> Self
         ensures { result ≡ inner.items }
     {
-        Items { inner }
+        Items { inner: Some(inner) }
     }
 
     /// The items as a vector, in their order. It takes no memory.
-    pub fn into_vec(self) -> Vec<T>
+    pub fn into_vec(self, alloc: Global) -> Vec<T>
+    where
+        T: Drop,
         ensures { result.items ≡ self }
     {
-        self.inner
+        let mut list = self;
+        match list.inner.take() {
+            Some(inner) => inner,
+            None => Vec::new(alloc),
+        }
     }
 
     /// Adds an item at the end. Where memory runs out, the list stays as it was and the item is
     /// dropped.
-    pub fn push(&mut self, item: T) -> Result<(), Memory>
+    pub fn push(&mut self, alloc: Global, item: T) -> Result<(), Memory>
     where
         T: Drop,
         ensures ok { OnOk result (self.new ≡ self.old ++ item ∷ []) }
         ensures err { OnErr result (self.new ≡ self.old) }
     {
-        self.inner.push(item)?;
+        match &mut self.inner {
+            Some(inner) => inner.push(item)?,
+            None => {
+                let mut inner = Vec::new(alloc);
+                inner.push(item)?;
+                self.inner = Some(inner);
+            }
+        }
         Ok(())
     }
 
@@ -57,21 +82,25 @@ impl<T> Items<T> {
     pub fn len(&self) -> usize
         ensures { result ≡ length self.now }
     {
-        self.inner.len()
+        self.as_slice().len()
     }
 
     /// Whether it has no item.
     pub fn is_empty(&self) -> bool
         ensures { IsTrue result ↔ (self.now ≡ []) }
     {
-        self.inner.is_empty()
+        self.as_slice().is_empty()
     }
 
     /// The items, in order.
+    #[inline]
     pub fn as_slice(&self) -> &[T]
         ensures { result.now ≡ self.now }
     {
-        self.inner.as_slice()
+        match &self.inner {
+            Some(inner) => inner.as_slice(),
+            None => &[],
+        }
     }
 }
 
@@ -83,7 +112,7 @@ impl<T: PartialEq> PartialEq for Items<T> {
     ghost laws = { lists_per T.laws };
 
     fn eq(&self, other: &Self) -> bool {
-        self.inner == other.inner
+        self.as_slice() == other.as_slice()
     }
 }
 
@@ -102,6 +131,6 @@ impl<T: Hash> Hash for Items<T> {
     ghost respects_eq = { (items_Alike (record { fed = T.respects_eq })).fed };
 
     fn hash<H: Hasher>(&self, state: &mut H) {
-        self.inner.hash(state);
+        self.as_slice().hash(state);
     }
 }

@@ -168,9 +168,9 @@ impl Entries {
         ensures each { IfOk result (All IsStat) }
     {
         let mut rest = self.inner;
-        let mut stats = Items::new(alloc);
+        let mut stats = Items::default();
         'entries: while let Some(entry) = rest.pop_front() {
-            stats.push(entry.finish()?)?;
+            stats.push(alloc, entry.finish()?)?;
         }
         Ok(stats)
     }

@@ -85,7 +85,7 @@ impl Draft {
         ensures { Leaves result self.new (with_columns name.now value.now self.old) }
     {
         let more = columns_value(alloc, self.request.table, name, value)?;
-        push_all(&mut self.request.columns, more.as_slice())?;
+        push_all(alloc, &mut self.request.columns, more.as_slice())?;
         Ok(())
     }
 
@@ -117,11 +117,11 @@ impl Draft {
     }
 }
 
-fn push_all(columns: &mut Items<Col>, more: &[Col]) -> Result<(), Memory>
+fn push_all(alloc: Global, columns: &mut Items<Col>, more: &[Col]) -> Result<(), Memory>
     ensures { OnOk result (columns.new ≡ columns.old ++ more.now) }
 {
     for column in more {
-        columns.push(*column)?;
+        columns.push(alloc, *column)?;
     }
     Ok(())
 }
@@ -169,13 +169,13 @@ fn columns_of_words(alloc: Global, table: Table, words: &[&[u8]]) -> Result<Item
     requires { AllByRecursion IsUtf8 (map (λ word. word.now) words.now) }
     ensures { Finds result (columns_of_words table (map (λ word. word.now) words.now)) }
 {
-    let mut columns = Items::new(alloc);
+    let mut columns = Items::default();
     for word in words {
         let word = as_text(word);
         let Some(column) = column(table, word) else {
             return Err(Fault::Refused(Reason::UnknownColumn(Text::new(alloc, word)?)));
         };
-        columns.push(column)?;
+        columns.push(alloc, column)?;
     }
     Ok(columns)
 }

@@ -25,8 +25,8 @@ use lq_schema::{Col, Names, Table, column_at, column_count, table};
 use lq_text::next_line;
 use std::alloc::{AllocError, Global};
 
-/// What a query asks.
-#[derive(Drop)]
+/// What a query asks. By default it asks for no columns of `hosts`, and says nothing else.
+#[derive(Drop, Default)]
 pub struct Request {
     /// The table that is asked.
     pub table: Table,
@@ -168,19 +168,11 @@ fn plain(alloc: Global, style: Style, table: Table) -> Draft
     Draft {
         request: Request {
             table,
-            columns: Items::new(alloc),
-            head: false,
-            filter: Filter::everything(alloc),
-            stats: Items::new(alloc),
-            limit: None,
-            format: Format::Csv,
-            separators: Separators::default(),
             fixed16: style.fixed16,
             keep: style.keep,
-            user: None,
             from: interval.from,
             until: interval.until,
-            names: Names::none(alloc),
+            ..Request::default()
         },
         names: None,
         filters: Filters::new(alloc),
@@ -239,7 +231,7 @@ fn request_of_draft(alloc: Global, draft: Draft) -> Result<Request, Fault>
     let interval = Interval::of(request.table, draft.filters.bounds(request.table))?;
     request.from = interval.from;
     request.until = interval.until;
-    request.names = Names::none(alloc);
+    request.names = Names::default();
     request.filter = draft.filters.finish(alloc)?;
     request.stats = draft.stats.finish(alloc)?;
     request.head = draft.names.unwrap_or(shows_all);
@@ -253,9 +245,9 @@ fn all_columns(alloc: Global, table: Table) -> Result<Items<Col>, Memory>
     ensures all { IfOk result (λ columns. columns ≡ columns_of table) }
     ensures some { IfOk result (λ columns. 0 < length columns) }
 {
-    let mut columns = Items::new(alloc);
+    let mut columns = Items::default();
     for i in 0..column_count(table) {
-        columns.push(column_at(table, i))?;
+        columns.push(alloc, column_at(table, i))?;
     }
     Ok(columns)
 }

@@ -21,10 +21,11 @@ use crate::service::ServiceColumn;
 use crate::service_group::ServiceGroupColumn;
 use crate::slice::SliceColumn;
 
-/// A table that a query may ask for.
-#[derive(Clone, Copy)]
+/// A table that a query may ask for. By default it is the first one, `hosts`.
+#[derive(Clone, Copy, Default)]
 pub enum Table {
     /// `hosts`, with a row for each host.
+    #[default]
     Hosts,
     /// `services`, with a row for each service.
     Services,

@@ -318,12 +318,13 @@ fn kept_lines(alloc: Global, keys: &KeySet, totals: &[Totals]) -> Result<Items<S
     requires small { All (All IsSmall) totals.now }
     ensures { IfOk result (λ lines. map shown_line lines ≡ kept_lines keys.now totals.now) }
 {
-    let mut lines = Items::new(alloc);
+    let mut lines = Items::default();
     for (place, group) in totals.iter().enumerate() {
-        lines.push(StatLine {
+        let line = StatLine {
             keys: values_of(alloc, keys.get(place))?,
             values: group.values(alloc)?,
-        })?;
+        };
+        lines.push(alloc, line)?;
     }
     Ok(lines)
 }
@@ -332,9 +333,9 @@ fn kept_lines(alloc: Global, keys: &KeySet, totals: &[Totals]) -> Result<Items<S
 fn values_of(alloc: Global, key: &[KeyCell]) -> Result<Items<Val<'static>>, Memory>
     ensures { IfOk result (λ values. map meaning_of values ≡ key_values key.now) }
 {
-    let mut values = Items::new(alloc);
+    let mut values = Items::default();
     for cell in key {
-        values.push(cell.to_value(alloc)?)?;
+        values.push(alloc, cell.to_value(alloc)?)?;
     }
     Ok(values)
 }

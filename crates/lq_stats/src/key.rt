@@ -72,9 +72,9 @@ impl KeyCell {
 fn texts_of(alloc: Global, texts: &[Text]) -> Result<Items<Text>, Memory>
     ensures { IfOk result (λ copy. copy ≡ texts.now) }
 {
-    let mut copy = Items::new(alloc);
+    let mut copy = Items::default();
     for text in texts {
-        copy.push(text.clone()?)?;
+        copy.push(alloc, text.clone()?)?;
     }
     Ok(copy)
 }
@@ -88,9 +88,9 @@ fn numbers_of(alloc: Global, numbers: &[u64]) -> Result<Items<u64>, Memory>
 fn pairs_of(alloc: Global, pairs: &[(Text, Text)]) -> Result<Items<(Text, Text)>, Memory>
     ensures { IfOk result (λ copy. copy ≡ pairs.now) }
 {
-    let mut copy = Items::new(alloc);
+    let mut copy = Items::default();
     for pair in pairs {
-        copy.push((pair.0.clone()?, pair.1.clone()?))?;
+        copy.push(alloc, (pair.0.clone()?, pair.1.clone()?))?;
     }
     Ok(copy)
 }

@@ -97,9 +97,9 @@ fn values_of(alloc: Global, totals: &[Total]) -> Result<Items<Val<'static>>, Mem
     requires { All IsSmall totals.now }
     ensures { IfOk result (λ values. map meaning_of values ≡ map total_value totals.now) }
 {
-    let mut values = Items::new(alloc);
+    let mut values = Items::default();
     for total in totals {
-        values.push(total.value())?;
+        values.push(alloc, total.value())?;
     }
     Ok(values)
 }

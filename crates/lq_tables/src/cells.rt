@@ -190,11 +190,11 @@ impl<'a, 'r> RowCells<'a, 'r> {
         match c.own {
             OwnColumn::Host(column) => match self.host {
                 Some(host) => host.value(alloc, live, view, column),
-                None => Ok(empty_value(alloc, kind(c))),
+                None => Ok(empty_value(kind(c))),
             },
             OwnColumn::Service(column) => match self.service {
                 Some(service) => service.value(alloc, live, column),
-                None => Ok(empty_value(alloc, kind(c))),
+                None => Ok(empty_value(kind(c))),
             },
             OwnColumn::HostGroup(column) => {
                 host_group_value(alloc, live, view, row_host_group_id(row), column)
@@ -211,14 +211,12 @@ impl<'a, 'r> RowCells<'a, 'r> {
             OwnColumn::Command(column) => {
                 Ok(Val::Str(command_text(row_command(base, row), column)))
             },
-            OwnColumn::Period(column) => {
-                Ok(period_value(alloc, live, row_period(base, row), column))
-            },
-            OwnColumn::Downtime(column) => Ok(downtime_value(alloc, self.downtime, column)),
-            OwnColumn::Comment(column) => Ok(comment_value(alloc, self.comment, column)),
-            OwnColumn::Line(column) => Ok(line_value(alloc, self.line, column)),
-            OwnColumn::Slice(column) => Ok(slice_value(alloc, live, row_slice(row), column)),
-            OwnColumn::Program(column) => Ok(program_value(alloc, live, row, column)),
+            OwnColumn::Period(column) => Ok(period_value(live, row_period(base, row), column)),
+            OwnColumn::Downtime(column) => Ok(downtime_value(self.downtime, column)),
+            OwnColumn::Comment(column) => Ok(comment_value(self.comment, column)),
+            OwnColumn::Line(column) => Ok(line_value(self.line, column)),
+            OwnColumn::Slice(column) => Ok(slice_value(live, row_slice(row), column)),
+            OwnColumn::Program(column) => Ok(program_value(live, row, column)),
             OwnColumn::Schema(column) => schema_value(alloc, row_entry(row), column),
         }
     }

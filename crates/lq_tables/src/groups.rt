@@ -55,7 +55,7 @@ pub(crate) fn contact_group_value<'a>(
     ensures plain { IsPlain (contact_group_kind column) → IsOk result }
 {
     let Some(group) = group else {
-        return Ok(empty_value(alloc, OwnColumn::ContactGroup(column).kind()));
+        return Ok(empty_value(OwnColumn::ContactGroup(column).kind()));
     };
     match column {
         ContactGroupColumn::Name => Ok(Val::Str(group.contactgroup_name.as_str())),
@@ -111,10 +111,10 @@ pub(crate) fn host_group_value<'a>(
     ensures plain { IsPlain (host_group_kind column) → IsOk result }
 {
     let Some(id) = id else {
-        return Ok(empty_value(alloc, OwnColumn::HostGroup(column).kind()));
+        return Ok(empty_value(OwnColumn::HostGroup(column).kind()));
     };
     let Some(group) = live.base().host_groups.as_slice().get(id.0 as usize) else {
-        return Ok(empty_value(alloc, OwnColumn::HostGroup(column).kind()));
+        return Ok(empty_value(OwnColumn::HostGroup(column).kind()));
     };
     match column {
         HostGroupColumn::Name => Ok(Val::Str(group.hostgroup_name.as_str())),
@@ -189,10 +189,10 @@ pub(crate) fn service_group_value<'a>(
     ensures plain { IsPlain (service_group_kind column) → IsOk result }
 {
     let Some(id) = id else {
-        return Ok(empty_value(alloc, OwnColumn::ServiceGroup(column).kind()));
+        return Ok(empty_value(OwnColumn::ServiceGroup(column).kind()));
     };
     let Some(group) = live.base().service_groups.as_slice().get(id.0 as usize) else {
-        return Ok(empty_value(alloc, OwnColumn::ServiceGroup(column).kind()));
+        return Ok(empty_value(OwnColumn::ServiceGroup(column).kind()));
     };
     match column {
         ServiceGroupColumn::Name => Ok(Val::Str(group.servicegroup_name.as_str())),

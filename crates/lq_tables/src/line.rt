@@ -11,7 +11,6 @@ use lq_columns::{empty_number, empty_text, empty_value};
 use lq_events::LogEntry;
 use lq_log::{line_options, line_type};
 use lq_schema::{LineColumn, OwnColumn, Val};
-use std::alloc::Global;
 
 /// The number of a column on a line, None where it is a text.
 pub(crate) fn line_number(line: Option<&LogEntry>, column: LineColumn) -> Option<i128>
@@ -55,11 +54,11 @@ pub(crate) fn line_text(line: Option<&LogEntry>, column: LineColumn) -> Option<&
     })
 }
 
-pub(crate) fn line_value(alloc: Global, line: Option<&LogEntry>, column: LineColumn) -> Val<'_>
+pub(crate) fn line_value(line: Option<&LogEntry>, column: LineColumn) -> Val<'_>
     ensures { meaning_of result ≡ line_cell (option_copied line.entry) column }
 {
     let Some(line) = line else {
-        return empty_value(alloc, OwnColumn::Line(column).kind());
+        return empty_value(OwnColumn::Line(column).kind());
     };
     match column {
         LineColumn::Time => Val::Int(i128::from(line.time)),

@@ -22,7 +22,7 @@ pub(crate) fn pairs_of(
 ) -> Result<Items<(Text, Text)>, Memory>
     ensures { IfOk result (λ pairs. pairs ≡ pairs_of base.now ids.now) }
 {
-    let mut pairs = Items::new(alloc);
+    let mut pairs = Items::default();
     for id in ids {
         push_pair(alloc, &mut pairs, pair_at(base, *id))?;
     }
@@ -44,7 +44,7 @@ fn push_pair(
     };
     let host = Text::new(alloc, pair.host)?;
     let description = Text::new(alloc, pair.description)?;
-    pairs.push((host, description))
+    pairs.push(alloc, (host, description))
 }
 
 fn pair_at(base: &Base, id: ServiceId) -> Option<Pair<'_>>

@@ -12,7 +12,6 @@ use lq_columns::{empty_number, empty_text, empty_value, flag};
 use lq_live::Live;
 use lq_records::Period;
 use lq_schema::{OwnColumn, PeriodColumn, Val};
-use std::alloc::Global;
 
 /// The number of a column on a time period, None where it is a text.
 pub(crate) fn period_number(
@@ -50,7 +49,6 @@ pub(crate) fn period_text(period: Option<&Period>, column: PeriodColumn) -> Opti
 }
 
 pub(crate) fn period_value<'a>(
-    alloc: Global,
     live: &Live,
     period: Option<&'a Period>,
     column: PeriodColumn,
@@ -58,7 +56,7 @@ pub(crate) fn period_value<'a>(
     ensures { meaning_of result ≡ period_cell live.now.state (option_copied period.entry) column }
 {
     let Some(period) = period else {
-        return empty_value(alloc, OwnColumn::Period(column).kind());
+        return empty_value(OwnColumn::Period(column).kind());
     };
     match column {
         PeriodColumn::Name => Val::Str(period.timeperiod_name.as_str()),

@@ -54,16 +54,11 @@ pub(crate) fn program_text(row: &Row, column: ProgramColumn) -> Option<&'static 
     }
 }
 
-pub(crate) fn program_value(
-    alloc: Global,
-    live: &Live,
-    row: &Row,
-    column: ProgramColumn,
-) -> Val<'static>
+pub(crate) fn program_value(live: &Live, row: &Row, column: ProgramColumn) -> Val<'static>
     ensures { meaning_of result ≡ program_part live.now.state row.now column }
 {
     let Row::Status = row else {
-        return empty_value(alloc, OwnColumn::Program(column).kind());
+        return empty_value(OwnColumn::Program(column).kind());
     };
     match column {
         ProgramColumn::ProgramVersion => Val::Str("lqd 1"),

@@ -11,7 +11,6 @@ use crate::value::service_flag;
 use lq_columns::{empty_number, empty_text, empty_value};
 use lq_events::{Comment, Downtime};
 use lq_schema::{CommentColumn, DowntimeColumn, OwnColumn, Val};
-use std::alloc::Global;
 
 // ---- downtimes
 
@@ -53,15 +52,11 @@ pub(crate) fn downtime_text(downtime: Option<&Downtime>, column: DowntimeColumn)
     }
 }
 
-pub(crate) fn downtime_value(
-    alloc: Global,
-    downtime: Option<&Downtime>,
-    column: DowntimeColumn,
-) -> Val<'_>
+pub(crate) fn downtime_value(downtime: Option<&Downtime>, column: DowntimeColumn) -> Val<'_>
     ensures { meaning_of result ≡ downtime_cell (option_copied downtime.entry) column }
 {
     let Some(downtime) = downtime else {
-        return empty_value(alloc, OwnColumn::Downtime(column).kind());
+        return empty_value(OwnColumn::Downtime(column).kind());
     };
     match column {
         DowntimeColumn::Id => Val::Int(i128::from(downtime.id)),
@@ -114,15 +109,11 @@ pub(crate) fn comment_text(comment: Option<&Comment>, column: CommentColumn) -> 
     }
 }
 
-pub(crate) fn comment_value(
-    alloc: Global,
-    comment: Option<&Comment>,
-    column: CommentColumn,
-) -> Val<'_>
+pub(crate) fn comment_value(comment: Option<&Comment>, column: CommentColumn) -> Val<'_>
     ensures { meaning_of result ≡ comment_cell (option_copied comment.entry) column }
 {
     let Some(comment) = comment else {
-        return empty_value(alloc, OwnColumn::Comment(column).kind());
+        return empty_value(OwnColumn::Comment(column).kind());
     };
     match column {
         CommentColumn::Id => Val::Int(i128::from(comment.id)),

@@ -18,7 +18,6 @@ use lq_live::Live;
 use lq_records::{Base, HostId, Object};
 use lq_schema::{OwnColumn, SliceColumn, Val};
 use lq_statehist::Slice;
-use std::alloc::Global;
 
 /// The number of a column on a slice, None where it is a text.
 pub(crate) fn slice_number(row: Option<&HistoryRow>, column: SliceColumn) -> Option<i128>
@@ -74,7 +73,6 @@ pub(crate) fn slice_text<'a>(
 }
 
 pub(crate) fn slice_value<'a>(
-    alloc: Global,
     live: &'a Live,
     row: Option<&HistoryRow>,
     column: SliceColumn,
@@ -82,7 +80,7 @@ pub(crate) fn slice_value<'a>(
     ensures { meaning_of result ≡ slice_cell live.now.state (option_copied row.entry) column }
 {
     let Some(row) = row else {
-        return empty_value(alloc, OwnColumn::Slice(column).kind());
+        return empty_value(OwnColumn::Slice(column).kind());
     };
     let slice = &row.slice;
     match column {

@@ -622,7 +622,7 @@ fn behind(alloc: Global) -> Result<Box<Site>, Fail> {
 }
 
 /// Results whose codes no command has.
-fn apply_codes(alloc: Global, site: &mut Site) -> Result<(), AllocError> {
+fn apply_codes(site: &mut Site) -> Result<(), AllocError> {
     let act = Act::ProcessHostCheckResult {
         host: HostId(0),
         code: 3,
@@ -641,7 +641,7 @@ fn assert_without_effect<R: Abort + AllocGlobal>(rt: &R, site: &mut Site) -> Res
     let before = site.ask(rt.alloc(), ALL)?;
     site.assert_step(rt, ALL, (WITHOUT_EFFECT, 17, before.as_str()))?;
     assert!(rt; site.live.now() == 116);
-    apply_codes(rt.alloc(), site)?;
+    apply_codes(site)?;
     site.assert_step(rt, ALL, ("", 0, before.as_str()))?;
     assert!(rt; site.live.now() == 118);
     assert!(rt; site.live.count() == 19);

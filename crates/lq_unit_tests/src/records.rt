@@ -135,17 +135,17 @@ fn assert_items(rt: &impl Abort, items: &Items<u32>, expected: &[u32]) {
 
 /// Numbers in the order in which they were pushed.
 fn assert_numbers<R: Abort + AllocGlobal>(rt: &R) -> Result<(), AllocError> {
-    let mut items = Items::new(rt.alloc());
+    let mut items = Items::default();
     assert_items(rt, &items, &[]);
     for number in [7u32, 3, 3] {
-        items.push(number)?;
+        items.push(rt.alloc(), number)?;
         assert!(rt; !items.is_empty());
     }
     assert_items(rt, &items, &[7, 3, 3]);
-    let vector = items.into_vec();
+    let vector = items.into_vec(rt.alloc());
     assert!(rt; vector.as_slice() == [7, 3, 3].as_slice());
     let mut items = Items::from_vec(vector);
-    items.push(9)?;
+    items.push(rt.alloc(), 9)?;
     assert_items(rt, &items, &[7, 3, 3, 9]);
     Ok(())
 }
@@ -154,9 +154,9 @@ fn assert_numbers<R: Abort + AllocGlobal>(rt: &R) -> Result<(), AllocError> {
 fn items_keep_the_order_in_which_they_came(rt: HostRuntime) -> Result<(), Fail> {
     assert_numbers(&rt)?;
     assert_items(&rt, &Items::from_vec(Vec::new(rt.alloc())), &[]);
-    let mut names = Items::new(rt.alloc());
-    names.push(Text::new(rt.alloc(), "web1")?)?;
-    names.push(Text::new(rt.alloc(), "db")?)?;
+    let mut names = Items::default();
+    names.push(rt.alloc(), Text::new(rt.alloc(), "web1")?)?;
+    names.push(rt.alloc(), Text::new(rt.alloc(), "db")?)?;
     assert!(rt; names.len() == 2);
     assert!(rt; names.as_slice()[0].as_str() == "web1");
     assert!(rt; names.as_slice()[1].as_str() == "db");
