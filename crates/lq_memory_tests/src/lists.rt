@@ -208,10 +208,10 @@ struct Forms;
 
 impl Call for Forms {
     fn make(&mut self, alloc: Global) -> Result<bool, AllocError> {
-        drop(MemSource::new(alloc, Vec::new(alloc), Vec::new(alloc))?);
-        drop(SteadySource::new(alloc, Vec::new(alloc))?);
-        drop(MemSink::new(alloc, Vec::new(alloc))?);
-        drop(MemFiles::new(alloc, Vec::new(alloc), Vec::new(alloc))?);
+        drop(MemSource::new(Vec::new(alloc), Vec::new(alloc)));
+        drop(SteadySource::new(Vec::new(alloc)));
+        drop(MemSink::new(alloc, Vec::new(alloc)));
+        drop(MemFiles::new(Vec::new(alloc), Vec::new(alloc)));
         Ok(true)
     }
 }
@@ -258,7 +258,7 @@ fn a_load_wants_memory_for_the_file(rt: HostRuntime) -> Result<(), Fail> {
     let path = String::from_str(rt.alloc(), "a")?;
     let bytes = Vec::from_slice(rt.alloc(), text.as_bytes())?;
     let pairs = vec![in rt.alloc(); (path, bytes)]?;
-    let mut files = MemFiles::new(rt.alloc(), pairs, Vec::new(rt.alloc()))?;
+    let mut files = MemFiles::new(pairs, Vec::new(rt.alloc()));
     assert_loaded(&rt, &mut files, "a", text.as_str())?;
     assert!(rt; files.faults() == 0);
     Ok(())

@@ -4,7 +4,6 @@ ghost use Rattle.lq_outside.specs.Faults.{next_count};
 ghost use Rattle.lq_outside.specs.Forms.{held_in, file_pairs};
 ghost use Rattle.lq_outside.specs.Loading.{HasLoadCause, IsFault, Loads, load_faults_after};
 
-use crate::failed::Memory;
 use crate::files::{Files, LoadErr};
 use crate::plan::Plan;
 use std::alloc::Global;
@@ -46,22 +45,18 @@ fn find_file<'a>(pairs: &'a [(String, Vec<u8>)], path: &str) -> Option<&'a [u8]>
 impl MemFiles {
     /// Holds the pairs of a path and its bytes; the first pair with a path decides. The loads with
     /// the numbers `fail_at` are to fail.
-    pub fn new(
-        _alloc: Global,
-        pairs: Vec<(String, Vec<u8>)>,
-        fail_at: Vec<u64>,
-    ) -> Result<Self, Memory>
-        ensures { IfOk result (λ f. f ≡ record {
+    pub fn new(pairs: Vec<(String, Vec<u8>)>, fail_at: Vec<u64>) -> Self
+        ensures { result ≡ record {
           pairs = file_pairs pairs.items;
           fail_at = fail_at.items;
           calls = 0;
           faults = 0;
-        }) }
+        } }
     {
-        Ok(MemFiles {
+        MemFiles {
             pairs,
             plan: Plan::new(fail_at),
-        })
+        }
     }
 
     /// How many loads were faults.

@@ -4,7 +4,7 @@ ghost use Rattle.std.specs.Io.{WritesAtMost};
 ghost use Rattle.std.specs.Io.KnownBytes.{WriteAppends};
 ghost use Rattle.lq_outside.specs.Faults.{HasCause, faults_after, next_count};
 
-use crate::failed::{Failed, Memory};
+use crate::failed::Failed;
 use crate::plan::Plan;
 use crate::sink::Sink;
 use std::alloc::Global;
@@ -35,15 +35,16 @@ impl Model for MemSink {
 
 impl MemSink {
     /// A sink that holds nothing. The writes with the numbers `fail_at` are to fail.
-    pub fn new(alloc: Global, fail_at: Vec<u64>) -> Result<Self, Memory>
-        ensures held { IfOk result (λ s. s.held ≡ []) }
-        ensures plan { IfOk result (λ s. s.fail_at ≡ fail_at.items) }
-        ensures counts { IfOk result (λ s. (s.calls ≡ 0) × (s.faults ≡ 0)) }
+    pub fn new(alloc: Global, fail_at: Vec<u64>) -> Self
+        ensures held { result.held ≡ [] }
+        ensures plan { result.fail_at ≡ fail_at.items }
+        ensures calls { result.calls ≡ 0 }
+        ensures faults { result.faults ≡ 0 }
     {
-        Ok(MemSink {
+        MemSink {
             bytes: Vec::new(alloc),
             plan: Plan::new(fail_at),
-        })
+        }
     }
 
     /// The bytes that it holds.

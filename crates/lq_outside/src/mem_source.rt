@@ -3,11 +3,10 @@ ghost use Rattle.std.specs.Io.{ReadsAtMost};
 ghost use Rattle.std.specs.Io.KnownBytes.{ReadConsumes};
 ghost use Rattle.lq_outside.specs.Faults.{HasCause, faults_after, next_count};
 
-use crate::failed::{Failed, Memory};
+use crate::failed::Failed;
 use crate::plan::Plan;
 use crate::source::Source;
 use crate::unread::Unread;
-use std::alloc::Global;
 use std::marker::Model;
 
 /// Bytes in memory as a source. The reads whose numbers are given fail, counted from 0, and no
@@ -33,18 +32,18 @@ impl Model for MemSource {
 
 impl MemSource {
     /// A source that has all of `bytes` left. The reads with the numbers `fail_at` are to fail.
-    pub fn new(_alloc: Global, bytes: Vec<u8>, fail_at: Vec<u64>) -> Result<Self, Memory>
-        ensures { IfOk result (λ s. s ≡ record {
+    pub fn new(bytes: Vec<u8>, fail_at: Vec<u64>) -> Self
+        ensures { result ≡ record {
           left = bytes.items;
           fail_at = fail_at.items;
           calls = 0;
           faults = 0;
-        }) }
+        } }
     {
-        Ok(MemSource {
+        MemSource {
             unread: Unread::new(bytes),
             plan: Plan::new(fail_at),
-        })
+        }
     }
 
     /// The bytes that are left.

@@ -1,12 +1,11 @@
-ghost use Rattle.std.specs.Prelude.{◌≡◌, Some, None, Ok, length, min, IfOk};
+ghost use Rattle.std.specs.Prelude.{◌≡◌, Some, None, Ok, length, min};
 ghost use Rattle.std.specs.Io.{ReadsAtMost};
 ghost use Rattle.std.specs.Io.KnownBytes.{ReadConsumes};
 ghost use Rattle.lq_outside.specs.Forms.{LosesFront};
 
-use crate::failed::{Failed, Memory};
+use crate::failed::Failed;
 use crate::source::Source;
 use crate::unread::Unread;
-use std::alloc::Global;
 use std::marker::Model;
 
 /// Bytes in memory as a source that never fails.
@@ -25,12 +24,12 @@ impl Model for SteadySource {
 
 impl SteadySource {
     /// A source that has all of `bytes` left.
-    pub fn new(_alloc: Global, bytes: Vec<u8>) -> Result<Self, Memory>
-        ensures { IfOk result (λ s. s ≡ bytes.items) }
+    pub fn new(bytes: Vec<u8>) -> Self
+        ensures { result ≡ bytes.items }
     {
-        Ok(SteadySource {
+        SteadySource {
             unread: Unread::new(bytes),
-        })
+        }
     }
 
     /// The bytes that are left.

@@ -80,8 +80,8 @@ fn replies(alloc: Global, live: Live, stream: String) -> Result<MemSink, Memory>
     requires { live.count ≡ 0 }
     ensures { IfOk result (λ sink. sink.held ≡ replies live.state (string_bytes stream)) }
 {
-    let mut input = SteadySource::new(alloc, stream.into_bytes())?;
-    let mut output = MemSink::new(alloc, Vec::new(alloc))?;
+    let mut input = SteadySource::new(stream.into_bytes());
+    let mut output = MemSink::new(alloc, Vec::new(alloc));
     match serve(alloc, live, &mut input, &mut output) {
         Ok(()) => Ok(output),
         Err(_) => Err(AllocError),

@@ -23,7 +23,7 @@ const READS: &[(Result<usize, Failed>, &[u8], &[u8], u64)] = &[
 fn a_source_in_memory_fails_at_its_numbers(rt: HostRuntime) -> Result<(), Fail> {
     let alloc = rt.alloc();
     let bytes = Vec::from_slice(alloc, b"abcde")?;
-    let mut source = MemSource::new(alloc, bytes, vec![in alloc; 1, 4]?)?;
+    let mut source = MemSource::new(bytes, vec![in alloc; 1, 4]?);
     let mut buf = [0u8; 3];
     for (count, held, left, faults) in READS {
         assert!(rt; source.read(&mut buf) == *count);
@@ -37,7 +37,7 @@ fn a_source_in_memory_fails_at_its_numbers(rt: HostRuntime) -> Result<(), Fail> 
 #[test]
 fn a_steady_source_gives_all_its_bytes(rt: HostRuntime) -> Result<(), Fail> {
     let alloc = rt.alloc();
-    let mut source = SteadySource::new(alloc, Vec::from_slice(alloc, b"abc")?)?;
+    let mut source = SteadySource::new(Vec::from_slice(alloc, b"abc")?);
     let mut buf = [0u8; 2];
     let reads: &[(usize, &[u8], &[u8])] = &[(2, b"ab", b"c"), (1, b"cb", b""), (0, b"cb", b"")];
     for (count, held, left) in reads {
@@ -59,7 +59,7 @@ const WRITES: &[(&[u8], Result<usize, Failed>)] = &[
 
 #[test]
 fn a_sink_in_memory_fails_at_its_numbers(rt: HostRuntime) -> Result<(), Fail> {
-    let mut sink = MemSink::new(rt.alloc(), vec![in rt.alloc(); 1]?)?;
+    let mut sink = MemSink::new(rt.alloc(), vec![in rt.alloc(); 1]?);
     for (piece, count) in WRITES {
         assert!(rt; sink.write(*piece) == *count);
     }
@@ -84,7 +84,7 @@ fn pairs(alloc: Global) -> Result<Vec<(String, Vec<u8>)>, Memory> {
 #[test]
 fn files_in_memory_answer_by_path_number_and_length(rt: HostRuntime) -> Result<(), Fail> {
     let alloc = rt.alloc();
-    let mut files = MemFiles::new(alloc, pairs(alloc)?, vec![in alloc; 2, 3]?)?;
+    let mut files = MemFiles::new(pairs(alloc)?, vec![in alloc; 2, 3]?);
     let cases: &[(&str, u64, Result<&[u8], LoadErr>, u64)] = &[
         ("a", 3, Ok(b"one"), 0),
         ("c", 9, Err(LoadErr::Missing), 1),
@@ -146,7 +146,7 @@ impl Sink for Narrow {
 fn short_writes_are_repeated_until_one_fails(rt: HostRuntime) -> Result<(), Fail> {
     let alloc = rt.alloc();
     let mut sink = Narrow {
-        inner: MemSink::new(alloc, vec![in alloc; 5]?)?,
+        inner: MemSink::new(alloc, vec![in alloc; 5]?),
     };
     assert!(rt; write_all(&mut sink, b"abcde") == Ok(()));
     assert!(rt; write_all(&mut sink, b"") == Ok(()));

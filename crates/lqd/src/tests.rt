@@ -64,15 +64,14 @@ fn files(alloc: Global, outside: &Outside<'_>) -> Result<MemFiles, AllocError> {
         String::from_str(alloc, "l")?,
         Vec::from_slice(alloc, outside.log)?,
     ))?;
-    MemFiles::new(alloc, pairs, Vec::from_slice(alloc, outside.fail_load)?)
+    Ok(MemFiles::new(pairs, Vec::from_slice(alloc, outside.fail_load)?))
 }
 
 fn source(alloc: Global, bytes: &[u8], fail_at: &[u64]) -> Result<MemSource, AllocError> {
-    MemSource::new(
-        alloc,
+    Ok(MemSource::new(
         Vec::from_slice(alloc, bytes)?,
         Vec::from_slice(alloc, fail_at)?,
-    )
+    ))
 }
 
 /// What the program is run with: its words, and all that it reads and writes.
@@ -123,8 +122,8 @@ fn process_of(
         words: texts(alloc, words)?,
         files: files(alloc, outside)?,
         input: source(alloc, input, outside.fail_read)?,
-        output: MemSink::new(alloc, Vec::from_slice(alloc, outside.fail_write)?)?,
-        faults: MemSink::new(alloc, Vec::new(alloc))?,
+        output: MemSink::new(alloc, Vec::from_slice(alloc, outside.fail_write)?),
+        faults: MemSink::new(alloc, Vec::new(alloc)),
     })
 }
 
@@ -832,10 +831,10 @@ impl Sink for Narrow {
 const STREAM: &[u8] = b"\r\n\nGET hosts\nColumns: name state\nKeepAlive: on\n\n\n\
 COMMAND [100] PROCESS_HOST_CHECK_RESULT;web2;1;down\n\nGET hosts\nColumns: name state\n\n";
 
-fn narrow_sink(alloc: Global) -> Result<Narrow, AllocError> {
-    Ok(Narrow {
-        inner: MemSink::new(alloc, Vec::new(alloc))?,
-    })
+fn narrow_sink(alloc: Global) -> Narrow {
+    Narrow {
+        inner: MemSink::new(alloc, Vec::new(alloc)),
+    }
 }
 
 fn process_in_pieces(
@@ -849,8 +848,8 @@ fn process_in_pieces(
         input: OneByte {
             inner: source(alloc, bytes, &[])?,
         },
-        output: narrow_sink(alloc)?,
-        faults: narrow_sink(alloc)?,
+        output: narrow_sink(alloc),
+        faults: narrow_sink(alloc),
     })
 }
 
