@@ -13,7 +13,7 @@ ghost use Rattle.lq_live.specs.declared.edit.Edit.TheVariants as edit;
 
 use crate::context::StepContext;
 use crate::edit::Edit;
-use crate::names::ObjectName;
+use crate::names::ObjectNames;
 use crate::outcome::{CheckAttempt, Outcome, before_bar, ends_acknowledgement, type_number};
 use lq_events::{Act, LogEntry, Status};
 use lq_log::{Form, make_line};
@@ -31,7 +31,7 @@ struct PassiveCheck<'a> {
 #[derive(Clone, Copy)]
 struct CheckResult<'a> {
     object: Object,
-    name: ObjectName<'a>,
+    name: ObjectNames<'a>,
     state: i64,
     attempt: CheckAttempt,
     output: &'a str,

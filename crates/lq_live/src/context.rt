@@ -6,7 +6,7 @@ ghost use Rattle.lq_live.specs.Kept.{state_of};
 ghost use Rattle.lq_live.specs.State.{line_names, names_of, object_status};
 
 use crate::live_state::LiveState;
-use crate::names::{ObjectName, holds_object, names_of};
+use crate::names::{ObjectNames, holds_object, names_of};
 use lq_events::Status;
 use lq_records::Object;
 use std::alloc::Global;
@@ -29,7 +29,7 @@ impl<'a> StepContext<'a> {
     }
 
     /// How a line names an object. None where the base doesn't hold it.
-    pub(crate) fn name_of(self, object: Object) -> Option<ObjectName<'a>>
+    pub(crate) fn name_of(self, object: Object) -> Option<ObjectNames<'a>>
         ensures { option_map (λ name. line_names name.host.now name.service.now) result
             ≡ names_of (arc_value self.entry.live.now.base) object }
     {

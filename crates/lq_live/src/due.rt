@@ -13,7 +13,7 @@ use crate::context::StepContext;
 use crate::depths::Depths;
 use crate::edit::Edit;
 use crate::event::Event;
-use crate::names::ObjectName;
+use crate::names::ObjectNames;
 use lq_events::LogEntry;
 use lq_log::{DowntimeChange, Form, make_line};
 use lq_records::{Memory, Object, Text};
@@ -85,7 +85,7 @@ impl<'a> StepContext<'a> {
 fn downtime_line(
     alloc: Global,
     change: DepthChange,
-    name: ObjectName<'_>,
+    name: ObjectNames<'_>,
 ) -> Result<LogEntry, Memory>
     ensures { IfOk result (λ entry. entry ≡ downtime_line change.second change.change
         (line_names name.entry.host.now name.entry.service.now)) }

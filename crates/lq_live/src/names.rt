@@ -8,13 +8,13 @@ use lq_records::{Base, Object, Service, Text};
 
 /// How a line names an object: its host, and its description where it is a service.
 #[derive(Clone, Copy)]
-pub(crate) struct ObjectName<'a> {
+pub(crate) struct ObjectNames<'a> {
     pub(crate) host: &'a Text,
     pub(crate) service: &'a str,
 }
 
 /// The name of an object. None where the base doesn't hold it.
-pub(crate) fn names_of<'a>(base: &'a Base, object: Object) -> Option<ObjectName<'a>>
+pub(crate) fn names_of<'a>(base: &'a Base, object: Object) -> Option<ObjectNames<'a>>
     ensures { option_map (λ name. line_names name.host.now name.service.now) result
         ≡ names_of base.now object }
 {
@@ -27,7 +27,7 @@ pub(crate) fn names_of<'a>(base: &'a Base, object: Object) -> Option<ObjectName<
     }
 }
 
-fn service_names<'a>(base: &'a Base, service: &'a Service) -> Option<ObjectName<'a>>
+fn service_names<'a>(base: &'a Base, service: &'a Service) -> Option<ObjectNames<'a>>
     ensures { option_map (λ name. line_names name.host.now name.service.now) result
         ≡ option_map (λ host. line_names host service.now.service_description)
         (host_in_line base.now service.now.host.0) }
@@ -39,12 +39,12 @@ fn service_names<'a>(base: &'a Base, service: &'a Service) -> Option<ObjectName<
     )
 }
 
-fn host_names<'a>(base: &'a Base, place: usize, description: &'a str) -> Option<ObjectName<'a>>
+fn host_names<'a>(base: &'a Base, place: usize, description: &'a str) -> Option<ObjectNames<'a>>
     ensures { option_map (λ name. line_names name.host.now name.service.now) result
         ≡ option_map (λ host. line_names host description.now) (host_in_line base.now place) }
 {
     let host = base.hosts.as_slice().get(place)?;
-    Some(ObjectName {
+    Some(ObjectNames {
         host: &host.host_name,
         service: description,
     })

@@ -4,7 +4,7 @@ ghost use Rattle.std.specs.Prelude.{◌≡◌, ◌++◌, ◌∷◌, [], OnOk};
 ghost use Rattle.lq_names.specs.Names.{single};
 
 use crate::scarce::{Call, assert_late, is_late, successes};
-use lq_names::{Name, NameIndex};
+use lq_names::{NameIndex, ObjectName};
 use lq_outside::{Files, LoadErr, MemFiles, MemSink, MemSource, StdFiles, SteadySource};
 use lq_records::{Host, Items, MonitoredItems, NamedItems, ObjectFields, Text, clean_text};
 use std::alloc::{AllocError, Global};
@@ -110,8 +110,8 @@ fn a_list_that_finds_no_memory_stays_as_it_was(rt: HostRuntime) -> Result<(), Fa
 }
 
 /// The name of a number.
-fn numbered(alloc: Global, number: usize) -> Result<Name, AllocError> {
-    Ok(Name::single(Text::from_string(number.to_string(alloc)?)?))
+fn numbered(alloc: Global, number: usize) -> Result<ObjectName, AllocError> {
+    Ok(ObjectName::single(Text::from_string(number.to_string(alloc)?)?))
 }
 
 /// The name of as many as there are is added.
@@ -161,7 +161,7 @@ fn no_fields() -> ObjectFields {
 fn push_name(names: &mut NameIndex, name: &Text) -> Result<(), AllocError>
     ensures { OnOk result (names.new ≡ names.old ++ single name.now ∷ []) }
 {
-    let name = Name::single(name.clone()?);
+    let name = ObjectName::single(name.clone()?);
     if names.contains(&name) || names.len() > 1_000 {
         return Err(AllocError);
     }

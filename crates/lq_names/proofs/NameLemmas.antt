@@ -6,12 +6,12 @@ use Rattle.std.proofs.lemmas.Bool.{cond-false, cond-true, cases_lt, le-ltb, lt-l
 use Rattle.std.proofs.lemmas.List.{get_or_default, map-append}
 use Rattle.std.proofs.lemmas.List.Sums.{fails_before_first, passes_at_first}
 use Rattle.std.proofs.lemmas.List.Folds.{list_any-from_Any, list_any_none}
-use Rattle.lq_names.specs.Names.{Name, is_equal_name, both_parts, place_of}
+use Rattle.lq_names.specs.Names.{ObjectName, is_equal_name, both_parts, place_of}
 
 abbrev pub Key : Type 0
 Key = List ℕ × List ℕ
 
-abbrev pub key_name : Key → Name
+abbrev pub key_name : Key → ObjectName
 key_name key = record { first = key.0; second = key.1 }
 
 prefix_len-map : {X Y : Type 0} (p : Y → Bool) (f : X → Y) (xs : List X) → prefix_len p (map f xs) ≡ prefix_len (λ x. p (f x)) xs
@@ -27,14 +27,14 @@ position-map p f xs =
     ap (λ n. cond (nat_lt n (length (map f xs))) (Some n) None) (prefix_len-map (λ y. not (p y)) f xs)
     ∙ ap (λ n. cond (nat_lt (position_or_len (λ x. p (f x)) xs) n) (Some (position_or_len (λ x. p (f x)) xs)) None) (length-map_here f xs)
 
-abbrev named : List ℕ → List ℕ → Name
+abbrev named : List ℕ → List ℕ → ObjectName
 named first second = record { first = first; second = second }
 
-name_from : (key : Key) (name : Name) → key.0 ≡ name.first → key.1 ≡ name.second → key_name key ≡ name
+name_from : (key : Key) (name : ObjectName) → key.0 ≡ name.first → key.1 ≡ name.second → key_name key ≡ name
 name_from key name first second =
     ap (λ text. named text (key.1)) first ∙ ap (λ text. named name.first text) second
 
-pub place_of-key : (keys : List Key) (key : Key) (name : Name) → key.0 ≡ name.first → key.1 ≡ name.second
+pub place_of-key : (keys : List Key) (key : Key) (name : ObjectName) → key.0 ≡ name.first → key.1 ≡ name.second
     → position (λ other. bytes_eq key.0 other.0 && bytes_eq key.1 other.1) keys ≡ place_of (map key_name keys) name
 place_of-key keys key name first second =
     subst (λ named. position (λ other. bytes_eq key.0 other.0 && bytes_eq key.1 other.1) keys ≡ place_of (map key_name keys) named)
@@ -72,7 +72,7 @@ pub none_from_is_some : {X : Type 0} (found : Option X) → is_some found ≡ fa
 none_from_is_some None absent = refl
 none_from_is_some (Some value) absent = absurd (true≢false absent)
 
-pub added_key : (keys new : List Key) (key : Key) (name : Name) (names : List Name) → map key_name keys ≡ names
+pub added_key : (keys new : List Key) (key : Key) (name : ObjectName) (names : List ObjectName) → map key_name keys ≡ names
     → key.0 ≡ name.first → key.1 ≡ name.second → place_of names name ≡ None
     → new ≡ (if list_any (λ other. bytes_eq key.0 other.0 && bytes_eq key.1 other.1) keys then keys else keys ++ key ∷ [])
     → map key_name new ≡ names ++ name ∷ []

@@ -4,5 +4,5 @@
 mod name;
 mod name_index;
 
-pub use name::Name;
+pub use name::ObjectName;
 pub use name_index::NameIndex;

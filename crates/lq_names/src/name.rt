@@ -7,24 +7,24 @@ use std::marker::Model;
 /// A name. A service's has two parts: its host's name and its description. Any other has an empty
 /// second part. Contracts see both parts as their bytes.
 #[derive(Drop)]
-pub struct Name {
+pub struct ObjectName {
     parts: (Text, Text),
 }
 
-impl Model for Name {
-    ghost use Rattle.lq_names.specs.Names.{Name};
+impl Model for ObjectName {
+    ghost use Rattle.lq_names.specs.Names.{ObjectName};
 
-    ghost Value = { Name };
+    ghost Value = { ObjectName };
 
     ghost view = { λ name. record { first = name.parts.0; second = name.parts.1 } };
 }
 
-impl Name {
+impl ObjectName {
     /// A name of two parts. It takes no memory.
     pub fn new(first: Text, second: Text) -> Self
         ensures { result ≡ record { first = first; second = second } }
     {
-        Name {
+        ObjectName {
             parts: (first, second),
         }
     }
@@ -33,7 +33,7 @@ impl Name {
     pub fn single(first: Text) -> Self
         ensures { result ≡ single first }
     {
-        Name {
+        ObjectName {
             parts: (first, Text::empty()),
         }
     }

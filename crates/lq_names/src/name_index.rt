@@ -3,7 +3,7 @@ ghost use Rattle.std.specs.Prelude.{OnErr, IfSome, Some, slice_get};
 ghost use Rattle.std.specs.List.{list_any};
 ghost use Rattle.lq_names.specs.Names.{is_equal_name, both_parts, place_of};
 
-use crate::name::Name;
+use crate::name::ObjectName;
 use indexmap::IndexSet;
 use lq_records::Text;
 use std::alloc::{AllocError, Global};
@@ -24,9 +24,9 @@ impl Drop for NameIndex {
 
 impl Model for NameIndex {
     ghost use Rattle.std.specs.Prelude.{List, ◌<◌, ◌^◌, length, map};
-    ghost use Rattle.lq_names.specs.Names.{Name};
+    ghost use Rattle.lq_names.specs.Names.{ObjectName};
 
-    ghost Value = { List Name };
+    ghost Value = { List ObjectName };
 
     ghost view = { λ index.
         map (λ key. record { first = key.0; second = key.1 }) index.names.keys };
@@ -52,7 +52,7 @@ impl NameIndex {
     }
 
     /// The place of a name, from 0 on. None where it isn't there.
-    pub fn find(&self, name: &Name) -> Option<u32>
+    pub fn find(&self, name: &ObjectName) -> Option<u32>
         ensures value { result ≡ place_of self.now name.now }
         ensures within { IfSome result (λ place. place < length self.now) }
     {
@@ -71,7 +71,7 @@ impl NameIndex {
     }
 
     /// Whether a name is there.
-    pub fn contains(&self, name: &Name) -> bool
+    pub fn contains(&self, name: &ObjectName) -> bool
         ensures value { result ≡ list_any (is_equal_name name.now) self.now }
         ensures absent { result ≡ false → place_of self.now name.now ≡ None }
     {
@@ -80,7 +80,7 @@ impl NameIndex {
 
     /// Adds at the end a name that isn't there yet. The only error is that memory runs out; the
     /// names then stay as they were.
-    pub fn push(&mut self, name: Name) -> Result<(), AllocError>
+    pub fn push(&mut self, name: ObjectName) -> Result<(), AllocError>
         requires new { place_of self.old name ≡ None }
         requires few { length self.old + 1 < 2 ^ 32 }
         ensures ok { OnOk result (self.new ≡ self.old ++ name ∷ []) }

@@ -2,11 +2,11 @@
 use Rattle.std.proofs.Common.{◌≡◌, ℕ, Option, Some, List, ◌∷◌, sym, ap, ◌∙◌}
 use Rattle.lq_objects.specs.Blocks.{Line, opened_word}
 use Rattle.lq_objects.specs.Kinds.{kind_named}
-use Rattle.lq_names.specs.Names.{Name}
+use Rattle.lq_names.specs.Names.{ObjectName}
 use Rattle.lq_objects.specs.Faults.{block_fault, opened_fault, part_fault}
-use Rattle.lq_objects.specs.declared.kind.Kind.{Kind}
+use Rattle.lq_objects.specs.declared.kind.BlockKind.{BlockKind}
 
-pub opened_fault-part : (earlier : Kind → List Name) (all lines : List Line) (opening : Line) (closing : Option Line) (word : List ℕ) (kind : Option Kind) (number : ℕ)
+pub opened_fault-part : (earlier : BlockKind → List ObjectName) (all lines : List Line) (opening : Line) (closing : Option Line) (word : List ℕ) (kind : Option BlockKind) (number : ℕ)
     → all ≡ opening ∷ lines → Some word ≡ opened_word opening.text → kind ≡ kind_named word → number ≡ opening.number
     → opened_fault earlier number kind lines closing ≡ part_fault earlier all closing
 opened_fault-part earlier all lines opening closing word kind number first opens is at =

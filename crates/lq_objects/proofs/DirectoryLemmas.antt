@@ -4,7 +4,7 @@ use Rattle.std.specs.Prelude.{filter, slice_get}
 use Rattle.std.proofs.lemmas.Bool.{cases_Bool}
 use Rattle.std.proofs.lemmas.List.{length-map}
 use Rattle.std.proofs.lemmas.Simd.{map-map}
-use Rattle.lq_names.specs.Names.{Name, both_parts}
+use Rattle.lq_names.specs.Names.{ObjectName, both_parts}
 use Rattle.lq_records.specs.declared.base.Base.{Base}
 use Rattle.lq_records.specs.declared.base.Rules.{Rules}
 use Rattle.lq_objects.specs.Blocks.{Line}
@@ -14,10 +14,10 @@ use Rattle.lq_objects.specs.Drafts.{count_of_kind}
 use Rattle.lq_objects.specs.Objects.{command_of, contact_group_of, contact_of, host_group_of, host_of, lines_of_kind, objects_of, period_of, service_group_of, service_of}
 use Rattle.lq_objects.proofs.ListLemmas.{map-agree}
 use Rattle.lq_objects.specs.declared.directory.Directory.{Directory}
-use Rattle.lq_objects.specs.declared.kind.Kind.{Kind}
-use Rattle.lq_objects.specs.declared.kind.Kind.TheVariants.{Host, Service, HostGroup, ServiceGroup, Contact, ContactGroup, Period, Command}
+use Rattle.lq_objects.specs.declared.kind.BlockKind.{BlockKind}
+use Rattle.lq_objects.specs.declared.kind.BlockKind.TheVariants.{Host, Service, HostGroup, ServiceGroup, Contact, ContactGroup, Period, Command}
 
-known_of : (blocks : List Block) (kind : Kind) → names_in (directory_of blocks) kind ≡ block_names blocks kind
+known_of : (blocks : List Block) (kind : BlockKind) → names_in (directory_of blocks) kind ≡ block_names blocks kind
 known_of blocks Host = refl
 known_of blocks Service = refl
 known_of blocks HostGroup = refl
@@ -33,7 +33,7 @@ known-directory directory blocks is = ap names_in is ∙ (λ i kind. known_of bl
 
 -- ---- the names by which objects are found
 
-named_as : {X : Type 0} (kind : Kind) (object_of : List Line → X) (name : X → List ℕ × List ℕ) (blocks : List Block)
+named_as : {X : Type 0} (kind : BlockKind) (object_of : List Line → X) (name : X → List ℕ × List ℕ) (blocks : List Block)
     → ((lines : List Line) → both_parts (name_of kind lines) ≡ name (object_of lines))
     → map both_parts (block_names blocks kind) ≡ map name (map object_of (lines_of_kind kind blocks))
 named_as kind object_of name blocks same =
@@ -44,7 +44,7 @@ named_as kind object_of name blocks same =
     ∙ sym (map-map name object_of (lines_of_kind kind blocks))
 
 -- the names of blocks are those of their objects
-pub names_of-blocks : (names : Kind → List Name) (rules : Rules) (blocks : List Block) → AreNamesOf (directory_of blocks) (objects_of names rules blocks)
+pub names_of-blocks : (names : BlockKind → List ObjectName) (rules : Rules) (blocks : List Block) → AreNamesOf (directory_of blocks) (objects_of names rules blocks)
 names_of-blocks names rules blocks = record {
   hosts = named_as Host (host_of names) (λ host. (host.host_name, [])) blocks (λ _. refl);
   services = named_as Service (service_of names) (λ service. (service.host_name, service.service_description)) blocks (λ _. refl);
@@ -56,7 +56,7 @@ names_of-blocks names rules blocks = record {
 
 -- ---- the name of a block's object, at its object's place
 
-own_kind : (kind : Kind) (lines : List Line) → is_of kind (record { kind = kind; lines = lines }) ≡ true
+own_kind : (kind : BlockKind) (lines : List Line) → is_of kind (record { kind = kind; lines = lines }) ≡ true
 own_kind Host lines = refl
 own_kind Service lines = refl
 own_kind HostGroup lines = refl
@@ -75,12 +75,12 @@ kept_at p f (y ∷ ys) (suc at) x within is kept =
     let rest = kept_at p f ys at x (omega (arith, within)) is kept in
     ⊎_elim (λ keeps. rw keeps rest) (λ drops. rw drops rest) (cases_Bool (p y))
 
-made_of : {X : Type 0} (object_of : List Line → X) (kind : Kind) (blocks : List Block)
+made_of : {X : Type 0} (object_of : List Line → X) (kind : BlockKind) (blocks : List Block)
     → length (map object_of (lines_of_kind kind blocks)) ≡ length (filter (is_of kind) blocks)
 made_of object_of kind blocks =
     length-map (lines_of_kind kind blocks) object_of ∙ length-map (filter (is_of kind) blocks) (λ (block : Block). block.lines)
 
-count_of_kind-blocks : (names : Kind → List Name) (rules : Rules) (blocks : List Block) (kind : Kind)
+count_of_kind-blocks : (names : BlockKind → List ObjectName) (rules : Rules) (blocks : List Block) (kind : BlockKind)
     → count_of_kind (objects_of names rules blocks) kind ≡ length (filter (is_of kind) blocks)
 count_of_kind-blocks names rules blocks Host = made_of (host_of names) Host blocks
 count_of_kind-blocks names rules blocks Service = made_of (service_of names) Service blocks

@@ -11,18 +11,18 @@ use Rattle.std.proofs.lemmas.Option.{none-some, same_Some}
 use Rattle.std.proofs.lemmas.Slice.Eq.{bytes_eq-Decides}
 use Rattle.lq_objects.specs.Blocks.{Line, Part, opened_word}
 use Rattle.lq_objects.specs.Kinds.{kind_named, kind_word, limit}
-use Rattle.lq_names.specs.Names.{Name, is_equal_name}
+use Rattle.lq_names.specs.Names.{ObjectName, is_equal_name}
 use Rattle.lq_objects.specs.Names.{Block, is_of, name_of, block_names}
 use Rattle.lq_objects.specs.Faults.{block_fault, block_of, blocks_of, ending_fault, fault_if, first_of, inner_fault, is_bad_name, lacks_name, name_fault, part_fault, parts_fault, known_block}
-use Rattle.lq_objects.specs.declared.kind.Kind.{Kind}
-use Rattle.lq_objects.specs.declared.kind.Kind.TheVariants.{Host, Service, HostGroup, ServiceGroup, Contact, ContactGroup, Period, Command}
+use Rattle.lq_objects.specs.declared.kind.BlockKind.{BlockKind}
+use Rattle.lq_objects.specs.declared.kind.BlockKind.TheVariants.{Host, Service, HostGroup, ServiceGroup, Contact, ContactGroup, Period, Command}
 use Rattle.lq_objects.specs.declared.fault.ObjectsWhat.{ObjectsWhat}
 use Rattle.lq_objects.specs.declared.fault.ObjectsWhat.TheVariants.{NoName, BadName, Twice, TooMany}
 use Rattle.lq_objects.proofs.ListLemmas.{All-from_list_any, option_or_none}
 
 -- ---- kinds
 
-kind_named-word : (kind : Kind) → kind_named (kind_word kind) ≡ Some kind
+kind_named-word : (kind : BlockKind) → kind_named (kind_word kind) ≡ Some kind
 kind_named-word Host = refl
 kind_named-word Service = refl
 kind_named-word HostGroup = refl
@@ -33,7 +33,7 @@ kind_named-word Period = refl
 kind_named-word Command = refl
 
 -- kinds differ in their words
-pub kind_from_is_of : (kind : Kind) (block : Block) → is_of kind block ≡ true → block.kind ≡ kind
+pub kind_from_is_of : (kind : BlockKind) (block : Block) → is_of kind block ≡ true → block.kind ≡ kind
 kind_from_is_of kind block is =
     let same : kind_word block.kind ≡ kind_word kind = (bytes_eq-Decides (kind_word block.kind) (kind_word kind)).0 is in
     same_Some block.kind kind (sym (kind_named-word block.kind) ∙ ap kind_named same ∙ kind_named-word kind)
@@ -41,14 +41,14 @@ kind_from_is_of kind block is =
 -- ---- names
 
 -- the names of the objects of a kind: different, whole, without `;` where there may be none, and within the limit
-pub record AreFine (kind : Kind) (names : List Name) : Type 0 where
+pub record AreFine (kind : BlockKind) (names : List ObjectName) : Type 0 where
   pub different : AllPairs (λ a b. is_equal_name b a ≡ false) names
   pub whole : All (λ name. lacks_name kind name ≡ false) names
   pub plain : All (λ name. is_bad_name kind name ≡ false) names
   pub few : length names ≤ limit kind
 
 -- a name that is none of the earlier ones of its kind
-record IsNew (kind : Kind) (earlier : List Name) (name : Name) : Type 0 where
+record IsNew (kind : BlockKind) (earlier : List ObjectName) (name : ObjectName) : Type 0 where
   whole : lacks_name kind name ≡ false
   plain : is_bad_name kind name ≡ false
   different : list_any (is_equal_name name) earlier ≡ false
@@ -58,7 +58,7 @@ pub fault_if-none : (test : Bool) (line : ℕ) (what : ObjectsWhat) → fault_if
 fault_if-none true line what none = absurd (none-some _ (sym none))
 fault_if-none false line what none = refl
 
-name_fault-none : (kind : Kind) (earlier : List Name) (name : Name) (line : ℕ) → name_fault kind earlier name line ≡ None → IsNew kind earlier name
+name_fault-none : (kind : BlockKind) (earlier : List ObjectName) (name : ObjectName) (line : ℕ) → name_fault kind earlier name line ≡ None → IsNew kind earlier name
 name_fault-none kind earlier name line none =
     let first = option_or_none (fault_if (lacks_name kind name) line NoName) _ none in
     let second = option_or_none (fault_if (is_bad_name kind name) line BadName) _ first.1 in
@@ -70,7 +70,7 @@ name_fault-none kind earlier name line none =
       room = leb-false (limit kind) (length earlier) (fault_if-none (nat_le (limit kind) (length earlier)) line TooMany third.1);
     }
 
-AreFine-nil : (kind : Kind) → AreFine kind []
+AreFine-nil : (kind : BlockKind) → AreFine kind []
 AreFine-nil kind = record {
   different = λ i j d low high. absurd (omega (arith, high));
   whole = All-nil (λ name. lacks_name kind name ≡ false);
@@ -78,7 +78,7 @@ AreFine-nil kind = record {
   few = omega arith;
 }
 
-AreFine-push : (kind : Kind) (names : List Name) (name : Name) → AreFine kind names → IsNew kind names name → AreFine kind (names ++ name ∷ [])
+AreFine-push : (kind : BlockKind) (names : List ObjectName) (name : ObjectName) → AreFine kind names → IsNew kind names name → AreFine kind (names ++ name ∷ [])
 AreFine-push kind names name fine new = record {
   different = all_pairs_push (λ a b. is_equal_name b a ≡ false) names name fine.different (All-from_list_any (is_equal_name name) names new.different);
   whole = All-push (λ other. lacks_name kind other ≡ false) names name fine.whole new.whole;
@@ -90,9 +90,9 @@ AreFine-push kind names name fine new = record {
 
 -- the objects of each kind have good names
 abbrev pub AllFine : List Block → Type 0
-AllFine blocks = (kind : Kind) → AreFine kind (block_names blocks kind)
+AllFine blocks = (kind : BlockKind) → AreFine kind (block_names blocks kind)
 
-pub block_names-append : (before more : List Block) (kind : Kind) → block_names (before ++ more) kind ≡ block_names before kind ++ block_names more kind
+pub block_names-append : (before more : List Block) (kind : BlockKind) → block_names (before ++ more) kind ≡ block_names before kind ++ block_names more kind
 block_names-append before more kind =
     ap (map (λ block. name_of kind block.lines)) (filter-append (is_of kind) before more)
     ∙ map-append (λ (block : Block). name_of kind block.lines) (filter (is_of kind) before) (filter (is_of kind) more)
@@ -111,7 +111,7 @@ AllFine-push before block fine new kind =
 
 -- ---- parts
 
-AllFine-ending : (before : List Block) (opening : ℕ) (found : Option Kind) (lines : List Line) (closing : Option Line) → AllFine before
+AllFine-ending : (before : List Block) (opening : ℕ) (found : Option BlockKind) (lines : List Line) (closing : Option Line) → AllFine before
     → ending_fault (block_names before) opening found lines closing ≡ None → AllFine (before ++ known_block found lines)
 AllFine-ending before opening None lines closing fine none = AllFine-none before fine
 AllFine-ending before opening (Some kind) lines None fine none = absurd (none-some _ (sym none))

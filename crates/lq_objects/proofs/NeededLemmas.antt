@@ -9,16 +9,16 @@ use Rattle.std.proofs.lemmas.Map.Views.{any-filter_same}
 use Rattle.lq_records.specs.Clean.{text_of_bytes}
 use Rattle.lq_objects.specs.Blocks.{Line, directive, is_closing, is_named, opened_word, value_of}
 use Rattle.lq_objects.specs.Kinds.{name_directive, reference_directive, references, second_directive}
-use Rattle.lq_names.specs.Names.{Name}
+use Rattle.lq_names.specs.Names.{ObjectName}
 use Rattle.lq_objects.specs.Names.{name_of, text_or}
 use Rattle.lq_objects.specs.Needed.{directives, is_known, is_needed}
 use Rattle.lq_objects.specs.Faults.{directive_fault, fault_if, first_of, has_numbers, inner_fault, is_unknown, names_unknown, number_between, unknown_in}
 use Rattle.lq_objects.specs.Objects.{command_of, contact_group_of, contact_of, custom_variables, fields_of, host_group_of, host_of, host_place, ids, is_variable, merged_variables, number_or, period_of, places, places_in, service_group_of, service_of, variable_of}
-use Rattle.lq_objects.specs.declared.kind.Kind.{Kind}
-use Rattle.lq_objects.specs.declared.kind.Kind.TheVariants.{Host, Service, HostGroup, ServiceGroup, Contact, ContactGroup, Period, Command}
+use Rattle.lq_objects.specs.declared.kind.BlockKind.{BlockKind}
+use Rattle.lq_objects.specs.declared.kind.BlockKind.TheVariants.{Host, Service, HostGroup, ServiceGroup, Contact, ContactGroup, Period, Command}
 use Rattle.lq_objects.specs.declared.kind.Reference.{Reference}
 use Rattle.lq_objects.specs.declared.kind.Reference.TheVariants as reference
-use Rattle.lq_objects.specs.declared.fault.Fault.{Fault}
+use Rattle.lq_objects.specs.declared.fault.FaultyLine.{FaultyLine}
 use Rattle.lq_objects.specs.declared.fault.ObjectsWhat.TheVariants.{NotFlattened, BadNumber, Unclosed, UnknownName}
 use Rattle.lq_objects.proofs.KnownLemmas.{IsKnownName, known_named}
 use Rattle.lq_objects.proofs.ListLemmas.{filter-filter, find-filter}
@@ -71,7 +71,7 @@ variables-needed lines =
 
 -- ---- names and references
 
-name_known : (kind : Kind) → IsKnownName (name_directive kind)
+name_known : (kind : BlockKind) → IsKnownName (name_directive kind)
 unfolding directives
 name_known Host = refl
 name_known Service = refl
@@ -82,7 +82,7 @@ name_known ContactGroup = refl
 name_known Period = refl
 name_known Command = refl
 
-second-needed : (kind : Kind) (lines : List Line)
+second-needed : (kind : BlockKind) (lines : List Line)
     → option_map_or (λ name. text_or [] name (needed lines)) (second_directive kind) []
     ≡ option_map_or (λ name. text_or [] name lines) (second_directive kind) []
 unfolding directives
@@ -95,7 +95,7 @@ second-needed ContactGroup lines = refl
 second-needed Period lines = refl
 second-needed Command lines = refl
 
-pub name-needed : (kind : Kind) (lines : List Line) → name_of kind (needed lines) ≡ name_of kind lines
+pub name-needed : (kind : BlockKind) (lines : List Line) → name_of kind (needed lines) ≡ name_of kind lines
 name-needed kind lines =
     λ i. record { first = text-needed [] (name_directive kind) (name_known kind) lines i; second = second-needed kind lines i }
 
@@ -109,19 +109,19 @@ reference_known reference.MemberHosts = refl
 reference_known reference.MemberServices = refl
 reference_known reference.MemberContacts = refl
 
-places-needed : (known : Kind → List Name) (reference : Reference) (lines : List Line)
+places-needed : (known : BlockKind → List ObjectName) (reference : Reference) (lines : List Line)
     → places known reference (needed lines) ≡ places known reference lines
 places-needed known reference lines =
     ap (λ found. option_map_or (places_in known reference) found [])
     (directive-needed (reference_directive reference) (reference_known reference) lines)
 
-ids-needed : {Id : Type 0} (id_at : ℕ → Id) (known : Kind → List Name) (reference : Reference) (lines : List Line)
+ids-needed : {Id : Type 0} (id_at : ℕ → Id) (known : BlockKind → List ObjectName) (reference : Reference) (lines : List Line)
     → ids id_at known reference (needed lines) ≡ ids id_at known reference lines
 ids-needed id_at known reference lines = ap (map id_at) (places-needed known reference lines)
 
 -- ---- objects
 
-fields-needed : (known : Kind → List Name) (own : List ℕ) (lines : List Line) → fields_of known own (needed lines) ≡ fields_of known own lines
+fields-needed : (known : BlockKind → List ObjectName) (own : List ℕ) (lines : List Line) → fields_of known own (needed lines) ≡ fields_of known own lines
 unfolding directives
 fields-needed known own lines =
     λ i. record {
@@ -141,12 +141,12 @@ fields-needed known own lines =
     }
 
 -- those of an object with its own name
-own_fields-needed : (known : Kind → List Name) (own : List ℕ) → IsKnownName own → (lines : List Line)
+own_fields-needed : (known : BlockKind → List ObjectName) (own : List ℕ) → IsKnownName own → (lines : List Line)
     → fields_of known (text_or [] own (needed lines)) (needed lines) ≡ fields_of known (text_or [] own lines) lines
 own_fields-needed known own is lines =
     fields-needed known _ lines ∙ ap (λ name. fields_of known name lines) (text-needed [] own is lines)
 
-pub host-needed : (known : Kind → List Name) (lines : List Line) → host_of known (needed lines) ≡ host_of known lines
+pub host-needed : (known : BlockKind → List ObjectName) (lines : List Line) → host_of known (needed lines) ≡ host_of known lines
 unfolding directives
 host-needed known lines =
     λ i. record {
@@ -157,7 +157,7 @@ host-needed known lines =
       fields = own_fields-needed known (codes "host_name") refl lines i;
     }
 
-pub service-needed : (known : Kind → List Name) (lines : List Line) → service_of known (needed lines) ≡ service_of known lines
+pub service-needed : (known : BlockKind → List ObjectName) (lines : List Line) → service_of known (needed lines) ≡ service_of known lines
 unfolding directives
 service-needed known lines =
     λ i. record {
@@ -167,7 +167,7 @@ service-needed known lines =
       fields = own_fields-needed known (codes "service_description") refl lines i;
     }
 
-pub host_group-needed : (known : Kind → List Name) (lines : List Line) → host_group_of known (needed lines) ≡ host_group_of known lines
+pub host_group-needed : (known : BlockKind → List ObjectName) (lines : List Line) → host_group_of known (needed lines) ≡ host_group_of known lines
 unfolding directives
 host_group-needed known lines =
     λ i. record {
@@ -179,7 +179,7 @@ host_group-needed known lines =
       action_url = text-needed [] (codes "action_url") refl lines i;
     }
 
-pub service_group-needed : (known : Kind → List Name) (lines : List Line) → service_group_of known (needed lines) ≡ service_group_of known lines
+pub service_group-needed : (known : BlockKind → List ObjectName) (lines : List Line) → service_group_of known (needed lines) ≡ service_group_of known lines
 unfolding directives
 service_group-needed known lines =
     λ i. record {
@@ -203,7 +203,7 @@ contact-needed lines =
       service_notification_period = text-needed [] (codes "service_notification_period") refl lines i;
     }
 
-pub contact_group-needed : (known : Kind → List Name) (lines : List Line) → contact_group_of known (needed lines) ≡ contact_group_of known lines
+pub contact_group-needed : (known : BlockKind → List ObjectName) (lines : List Line) → contact_group_of known (needed lines) ≡ contact_group_of known lines
 unfolding directives
 contact_group-needed known lines =
     λ i. record {
@@ -230,7 +230,7 @@ command-needed lines =
 
 -- ---- faults of lines
 
-directive-none : (kind : Kind) (line : Line) → is_needed line ≡ false → directive_fault kind line ≡ None
+directive-none : (kind : BlockKind) (line : Line) → is_needed line ≡ false → directive_fault kind line ≡ None
 unfolding directives
 directive-none kind line unneeded =
     ap₂ option_or
@@ -241,12 +241,12 @@ directive-none kind line unneeded =
     (or_from _ _ (and_left _ _ (not_named (codes "max_check_attempts") refl line unneeded))
     (and_left _ _ (not_named (codes "notifications_enabled") refl line unneeded)))))
 
-pub inner-none : (opening : ℕ) (kind : Option Kind) (line : Line) → is_needed line ≡ false → inner_fault opening kind line ≡ None
+pub inner-none : (opening : ℕ) (kind : Option BlockKind) (line : Line) → is_needed line ≡ false → inner_fault opening kind line ≡ None
 inner-none opening None line unneeded = ap (λ opens. fault_if opens opening Unclosed) (says_nothing line unneeded).opening
 inner-none opening (Some kind) line unneeded =
     ap₂ option_or (ap (λ opens. fault_if opens opening Unclosed) (says_nothing line unneeded).opening) (directive-none kind line unneeded)
 
-pub first_of-needed : (fault : Line → Option Fault) → ((line : Line) → is_needed line ≡ false → fault line ≡ None) → (lines : List Line)
+pub first_of-needed : (fault : Line → Option FaultyLine) → ((line : Line) → is_needed line ≡ false → fault line ≡ None) → (lines : List Line)
     → first_of fault (needed lines) ≡ first_of fault lines
 first_of-needed fault none [] = refl
 first_of-needed fault none (line ∷ lines) =
@@ -263,7 +263,7 @@ needed_when_named name known line named =
     true_from_ne_false (is_needed line) (λ unneeded. both_ways (is_named name line.text) (not_named name known line unneeded) named)
 
 -- a needed line decides the same
-names_unknown-needed : (known : Kind → List Name) (line : Line) (later : List Line) (reference : Reference)
+names_unknown-needed : (known : BlockKind → List ObjectName) (line : Line) (later : List Line) (reference : Reference)
     → names_unknown known line (needed later) reference ≡ names_unknown known line later reference
 names_unknown-needed known line later reference =
     let name : List ℕ = reference_directive reference in
@@ -276,14 +276,14 @@ list_any-false test none [] = refl
 list_any-false test none (x ∷ xs) = or_from (test x) (list_any test xs) (none x) (list_any-false test none xs)
 
 -- another line decides nothing
-no_unknown : (known : Kind → List Name) (kind : Kind) (line : Line) (later : List Line) → is_needed line ≡ false
+no_unknown : (known : BlockKind → List ObjectName) (kind : BlockKind) (line : Line) (later : List Line) → is_needed line ≡ false
     → list_any (names_unknown known line later) (references kind) ≡ false
 no_unknown known kind line later unneeded =
     list_any-false (names_unknown known line later)
     (λ reference. and_left _ _ (and_left _ _ (not_named (reference_directive reference) (reference_known reference) line unneeded)))
     (references kind)
 
-pub unknown_in-needed : (known : Kind → List Name) (kind : Kind) (lines : List Line) → unknown_in known kind (needed lines) ≡ unknown_in known kind lines
+pub unknown_in-needed : (known : BlockKind → List ObjectName) (kind : BlockKind) (lines : List Line) → unknown_in known kind (needed lines) ≡ unknown_in known kind lines
 unknown_in-needed known kind [] = refl
 unknown_in-needed known kind (line ∷ later) =
     let rest = unknown_in-needed known kind later in

@@ -4,7 +4,7 @@ use Rattle.std.specs.Borrow.{Bor}
 use Rattle.std.specs.Option.{option_map}
 use Rattle.std.proofs.lemmas.List.{length-drop}
 use Rattle.lq_records.specs.Clean.{text_of_bytes}
-use Rattle.lq_names.specs.Names.{Name}
+use Rattle.lq_names.specs.Names.{ObjectName}
 use Rattle.lq_objects.specs.Names.{names_in_pairs}
 use Rattle.lq_objects.specs.Views.{lent_texts}
 
@@ -14,7 +14,7 @@ none_of_one (piece ∷ []) some few = refl
 none_of_one (first ∷ second ∷ rest) some few = absurd (omega (arith, few))
 
 -- a last piece without its second
-pub pairs_of-odd : (f : List Name → List Name) (pieces : List (Bor (List ℕ))) (at : ℕ) (all : Option (List Name)) → at < length pieces → length pieces ≤ at + 1
+pub pairs_of-odd : (f : List ObjectName → List ObjectName) (pieces : List (Bor (List ℕ))) (at : ℕ) (all : Option (List ObjectName)) → at < length pieces → length pieces ≤ at + 1
     → option_map f (names_in_pairs (map text_of_bytes (lent_texts (drop at pieces)))) ≡ all → None ≡ all
 pairs_of-odd f pieces at all some few pairs =
     let left = length-drop at pieces in

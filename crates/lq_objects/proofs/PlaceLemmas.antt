@@ -18,12 +18,12 @@ use Rattle.lq_records.specs.declared.ids.ContactId.{ContactId}
 use Rattle.lq_records.specs.declared.ids.ContactGroupId.{ContactGroupId}
 use Rattle.lq_objects.specs.Blocks.{Line, directive, is_named, value_of}
 use Rattle.lq_objects.specs.Kinds.{reference_directive, references, target}
-use Rattle.lq_names.specs.Names.{Name, is_equal_name, place_of, single}
+use Rattle.lq_names.specs.Names.{ObjectName, is_equal_name, place_of, single}
 use Rattle.lq_objects.specs.Names.{Block, is_of, name_of, named_in, text_or}
 use Rattle.lq_objects.specs.Faults.{decides, fault_if, first_of, is_empty, is_unknown, lacks_name, names_unknown, number_between, unknown_in}
 use Rattle.lq_objects.specs.Objects.{distinct, host_place, ids, lines_of_kind, number_or, places, places_in}
-use Rattle.lq_objects.specs.declared.kind.Kind.{Kind}
-use Rattle.lq_objects.specs.declared.kind.Kind.TheVariants.{Host, Service}
+use Rattle.lq_objects.specs.declared.kind.BlockKind.{BlockKind}
+use Rattle.lq_objects.specs.declared.kind.BlockKind.TheVariants.{Host, Service}
 use Rattle.lq_objects.specs.declared.kind.Reference.{Reference}
 use Rattle.lq_objects.specs.declared.kind.Reference.TheVariants.{ServiceHost}
 use Rattle.lq_objects.specs.declared.fault.ObjectsWhat.TheVariants.{UnknownName}
@@ -59,18 +59,18 @@ number_or-bounded absent least most name lines low high = found-bounded absent l
 
 -- ---- places
 
-place_of-within : (names : List Name) (name : Name) (place : ℕ) → place_of names name ≡ Some place → place < length names
+place_of-within : (names : List ObjectName) (name : ObjectName) (place : ℕ) → place_of names name ≡ Some place → place < length names
 place_of-within names name place found = (position-Some (is_equal_name name) names place name found).0
 
-found-places : (known : Kind → List Name) (reference : Reference) (found : Option (List ℕ))
+found-places : (known : BlockKind → List ObjectName) (reference : Reference) (found : Option (List ℕ))
     → ArePlaces (length (known (target reference))) (option_map_or (places_in known reference) found [])
 found-places known reference None = record {
   different = λ i j d low high. absurd (omega (arith, high));
   within = All-nil (λ place. place < length (known (target reference)));
 }
 found-places known reference (Some value) =
-    let names : List Name = known (target reference) in
-    let named : List Name = unwrap_or (named_in reference value) [] in
+    let names : List ObjectName = known (target reference) in
+    let named : List ObjectName = unwrap_or (named_in reference value) [] in
     record {
       different = AllPairs-distinct (filter_map (place_of names) named);
       within = All-distinct (λ place. place < length names) (filter_map (place_of names) named)
@@ -79,28 +79,28 @@ found-places known reference (Some value) =
 
 -- the places of named objects, as ids
 ids-places : {X : Type 0} (unwrap : X → ℕ) (wrap : ℕ → X) (back : (n : ℕ) → unwrap (wrap n) ≡ n)
-    (known : Kind → List Name) (reference : Reference) (lines : List Line) {count : ℕ} → count ≡ length (known (target reference))
+    (known : BlockKind → List ObjectName) (reference : Reference) (lines : List Line) {count : ℕ} → count ≡ length (known (target reference))
     → ArePlaces count (map unwrap (map wrap (places known reference lines)))
 ids-places unwrap wrap back known reference lines {count} size =
     subst (ArePlaces count) (sym (map-unwrapped unwrap wrap back (places known reference lines)))
     (subst (λ n. ArePlaces n (places known reference lines)) (sym size) (found-places known reference (directive (reference_directive reference) lines)))
 
-pub host_ids-places : (known : Kind → List Name) (reference : Reference) (lines : List Line) {count : ℕ}
+pub host_ids-places : (known : BlockKind → List ObjectName) (reference : Reference) (lines : List Line) {count : ℕ}
     → count ≡ length (known (target reference))
     → ArePlaces count (map (λ id. id.0) (ids {Id = HostId} (λ place. record { 0 = place }) known reference lines))
 host_ids-places = ids-places {X = HostId} (λ id. id.0) (λ place. record { 0 = place }) (λ _. refl)
 
-pub service_ids-places : (known : Kind → List Name) (reference : Reference) (lines : List Line) {count : ℕ}
+pub service_ids-places : (known : BlockKind → List ObjectName) (reference : Reference) (lines : List Line) {count : ℕ}
     → count ≡ length (known (target reference))
     → ArePlaces count (map (λ id. id.0) (ids {Id = ServiceId} (λ place. record { 0 = place }) known reference lines))
 service_ids-places = ids-places {X = ServiceId} (λ id. id.0) (λ place. record { 0 = place }) (λ _. refl)
 
-pub contact_ids-places : (known : Kind → List Name) (reference : Reference) (lines : List Line) {count : ℕ}
+pub contact_ids-places : (known : BlockKind → List ObjectName) (reference : Reference) (lines : List Line) {count : ℕ}
     → count ≡ length (known (target reference))
     → ArePlaces count (map (λ id. id.0) (ids {Id = ContactId} (λ place. record { 0 = place }) known reference lines))
 contact_ids-places = ids-places {X = ContactId} (λ id. id.0) (λ place. record { 0 = place }) (λ _. refl)
 
-pub contact_group_ids-places : (known : Kind → List Name) (reference : Reference) (lines : List Line) {count : ℕ}
+pub contact_group_ids-places : (known : BlockKind → List ObjectName) (reference : Reference) (lines : List Line) {count : ℕ}
     → count ≡ length (known (target reference))
     → ArePlaces count (map (λ id. id.0) (ids {Id = ContactGroupId} (λ place. record { 0 = place }) known reference lines))
 contact_group_ids-places = ids-places {X = ContactGroupId} (λ id. id.0) (λ place. record { 0 = place }) (λ _. refl)
@@ -108,7 +108,7 @@ contact_group_ids-places = ids-places {X = ContactGroupId} (λ id. id.0) (λ pla
 -- ---- names that are there
 
 -- all the blocks of a kind name what is there
-pub All-known : (known : Kind → List Name) (kind : Kind) (blocks : List Block)
+pub All-known : (known : BlockKind → List ObjectName) (kind : BlockKind) (blocks : List Block)
     → first_of (λ block. unknown_in known block.kind block.lines) blocks ≡ None
     → All (λ lines. unknown_in known kind lines ≡ None) (lines_of_kind kind blocks)
 All-known known kind [] none = All-nil (λ lines. unknown_in known kind lines ≡ None)
@@ -140,7 +140,7 @@ abbrev said_host : Line → List ℕ
 said_host line = value_of (codes "host_name") line.text
 
 -- `found` is the last of the later lines that name a host; where there is none the line at the front decides
-deciding : (known : Kind → List Name) (line : Line) (later : List Line) (value : List ℕ) (found : Option Line)
+deciding : (known : BlockKind → List ObjectName) (line : Line) (later : List Line) (value : List ℕ) (found : Option Line)
     → (found ≡ None → list_any names_host later ≡ false) → names_unknown known line later ServiceHost ≡ false
     → (option_map said_host found ≡ Some value → is_unknown known ServiceHost value ≡ false)
     → option_map said_host (option_or found (find names_host (line ∷ []))) ≡ Some value → is_unknown known ServiceHost value ≡ false
@@ -156,7 +156,7 @@ deciding known line later value None last here behind says =
     says
 
 -- a service names a host that is there
-host-known : (known : Kind → List Name) (lines : List Line) (value : List ℕ) → unknown_in known Service lines ≡ None
+host-known : (known : BlockKind → List ObjectName) (lines : List Line) (value : List ℕ) → unknown_in known Service lines ≡ None
     → directive (codes "host_name") lines ≡ Some value → is_unknown known ServiceHost value ≡ false
 host-known known [] value none says = absurd (none-some value says)
 host-known known (line ∷ later) value none says =
@@ -166,12 +166,12 @@ host-known known (line ∷ later) value none says =
     (host-known known later value both.1) (ap (option_map said_host) (sym (find-last names_host line later)) ∙ says)
 
 -- a service's host is at its place
-pub record HasHost (known : Kind → List Name) (lines : List Line) : Type 0 where
+pub record HasHost (known : BlockKind → List ObjectName) (lines : List Line) : Type 0 where
   pub place : ℕ
   pub is : host_place (places known ServiceHost lines) ≡ place
   pub found : place_of (known Host) (single (text_or [] (codes "host_name") lines)) ≡ Some place
 
-found-host : (known : Kind → List Name) (found : Option (List ℕ)) → is_empty (option_map_or text_of_bytes found []) ≡ false
+found-host : (known : BlockKind → List ObjectName) (found : Option (List ℕ)) → is_empty (option_map_or text_of_bytes found []) ≡ false
     → ((value : List ℕ) → found ≡ Some value → is_unknown known ServiceHost value ≡ false)
     → (place : ℕ) × (host_place (option_map_or (places_in known ServiceHost) found []) ≡ place)
     × (place_of (known Host) (single (option_map_or text_of_bytes found [])) ≡ Some place)
@@ -181,7 +181,7 @@ found-host known (Some value) some there =
     (host.0, ap (λ place. host_place (distinct (cons_option place []))) host.1, host.1)
 
 -- it has one, where no fault was found
-pub host-found : (known : Kind → List Name) (lines : List Line) → unknown_in known Service lines ≡ None
+pub host-found : (known : BlockKind → List ObjectName) (lines : List Line) → unknown_in known Service lines ≡ None
     → lacks_name Service (name_of Service lines) ≡ false → HasHost known lines
 host-found known lines none whole =
     let some = or_parts (is_empty (name_of Service lines).first) _ whole in
@@ -189,41 +189,41 @@ host-found known lines none whole =
     record { place = host.0; is = host.1; found = host.2 }
 
 -- it is one of the hosts
-pub host-within : (known : Kind → List Name) (lines : List Line) → HasHost known lines
+pub host-within : (known : BlockKind → List ObjectName) (lines : List Line) → HasHost known lines
     → host_place (places known ServiceHost lines) < length (known Host)
 host-within known lines host =
     subst (λ place. place < length (known Host)) (sym host.is)
     (place_of-within (known Host) (single (text_or [] (codes "host_name") lines)) host.place host.found)
 
 -- the name at the place of a name is this name
-name_at-place : (names : List Name) (text : List ℕ) (place : ℕ) → place_of names (single text) ≡ Some place
-    → slice_get (map (λ (name : Name). name.first) names) place ≡ Some text
+name_at-place : (names : List ObjectName) (text : List ℕ) (place : ℕ) → place_of names (single text) ≡ Some place
+    → slice_get (map (λ (name : ObjectName). name.first) names) place ≡ Some text
 name_at-place names text place is =
     let found = position-Some (is_equal_name (single text)) names place (single text) is in
-    let name : Name = get_or names place (single text) in
+    let name : ObjectName = get_or names place (single text) in
     let here = and_parts (bytes_eq text name.first) _ found.1 in
-    slice_get-map (λ (name : Name). name.first) names place
-    ∙ ap (option_map (λ (name : Name). name.first)) (slice_get-get_or names place (single text) found.0)
+    slice_get-map (λ (name : ObjectName). name.first) names place
+    ∙ ap (option_map (λ (name : ObjectName). name.first)) (slice_get-get_or names place (single text) found.0)
     ∙ ap (λ text. Some text) (sym ((bytes_eq-Decides text name.first).0 here.0))
 
 -- a service's host has the name that the service says
-pub host-named : (known : Kind → List Name) (lines : List Line) → HasHost known lines
-    → slice_get (map (λ (name : Name). name.first) (known Host)) (host_place (places known ServiceHost lines)) ≡ Some (text_or [] (codes "host_name") lines)
+pub host-named : (known : BlockKind → List ObjectName) (lines : List Line) → HasHost known lines
+    → slice_get (map (λ (name : ObjectName). name.first) (known Host)) (host_place (places known ServiceHost lines)) ≡ Some (text_or [] (codes "host_name") lines)
 host-named known lines host =
-    ap (slice_get (map (λ (name : Name). name.first) (known Host))) host.is
+    ap (slice_get (map (λ (name : ObjectName). name.first) (known Host))) host.is
     ∙ name_at-place (known Host) (text_or [] (codes "host_name") lines) host.place host.found
 
 -- names at one place are the same
-place_of-same : (names : List Name) (first second : List ℕ) (place : ℕ)
+place_of-same : (names : List ObjectName) (first second : List ℕ) (place : ℕ)
     → place_of names (single first) ≡ Some place → place_of names (single second) ≡ Some place → first ≡ second
 place_of-same names first second place is is' =
-    let name : Name = get_or names place (single first) in
+    let name : ObjectName = get_or names place (single first) in
     let here = and_parts (bytes_eq first name.first) _ (position-Some (is_equal_name (single first)) names place (single first) is).1 in
     let there = and_parts (bytes_eq second name.first) _ (position-Some (is_equal_name (single second)) names place (single first) is').1 in
     (bytes_eq-Decides first name.first).0 here.0 ∙ sym ((bytes_eq-Decides second name.first).0 there.0)
 
 -- services with one host have different descriptions
-pub services-differ : (known : Kind → List Name) (a b : List Line) → HasHost known a → HasHost known b
+pub services-differ : (known : BlockKind → List ObjectName) (a b : List Line) → HasHost known a → HasHost known b
     → is_equal_name (name_of Service b) (name_of Service a) ≡ false
     → host_place (places known ServiceHost a) ≡ host_place (places known ServiceHost b)
     → text_or [] (codes "service_description") a ≢ text_or [] (codes "service_description") b

@@ -11,20 +11,20 @@ use Rattle.lq_objects.specs.Names.{Block}
 use Rattle.lq_objects.specs.Objects.{base_of_blocks, base_of_parts, base_or, objects_of}
 use Rattle.lq_objects.specs.Reading.{Reads}
 use Rattle.lq_objects.specs.declared.directory.Directory.{Directory}
-use Rattle.lq_objects.specs.declared.fault.Fault.{Fault}
+use Rattle.lq_objects.specs.declared.fault.FaultyLine.{FaultyLine}
 use Rattle.lq_objects.specs.declared.fault.ObjectsErr.{ObjectsErr}
 use Rattle.lq_objects.specs.declared.fault.ObjectsErr.TheVariants.{At, Memory}
 use Rattle.lq_objects.proofs.DirectoryLemmas.{known-directory}
 
 -- an error that is passed on
-pub reads_passed : (result : Result Base ObjectsErr) (error : ObjectsErr) (read : Result Base Fault) → IsErrAnd result (λ passed. passed ≡ error)
+pub reads_passed : (result : Result Base ObjectsErr) (error : ObjectsErr) (read : Result Base FaultyLine) → IsErrAnd result (λ passed. passed ≡ error)
     → Reads {X = Base} (Err error) read → Reads result read
 reads_passed (Ok base) error read passed reads = absurd passed
 reads_passed (Err other) error read passed reads = subst (λ (e : ObjectsErr). Reads {X = Base} (Err e) read) (sym passed) reads
 
 module _ (rules : Rules) (parts : List Part) where
   -- by what the parts and the names in them have for faults
-  by_faults : (first unknown : Option Fault) → parts_fault [] parts ≡ first → unknown_fault (blocks_of parts) ≡ unknown
+  by_faults : (first unknown : Option FaultyLine) → parts_fault [] parts ≡ first → unknown_fault (blocks_of parts) ≡ unknown
       → base_of_parts rules parts ≡ base_or (option_or first unknown) (base_of_blocks rules (blocks_of parts))
   by_faults first unknown is names =
       ap (λ found. base_or (option_or found (unknown_fault (blocks_of parts))) (base_of_blocks rules (blocks_of parts))) is
@@ -39,7 +39,7 @@ module _ (rules : Rules) (parts : List Part) where
     unknown_is : first_of (unknown_in_block (names_in directory)) blocks ≡ unknown_fault (blocks_of parts)
     unknown_is = ap (λ names. first_of (unknown_in_block names) blocks) (known-directory directory blocks is) ∙ ap unknown_fault all
 
-    reads_unknown : (fault : Fault) → Some fault ≡ first_of (unknown_in_block (names_in directory)) blocks → base_of_parts rules parts ≡ Err fault
+    reads_unknown : (fault : FaultyLine) → Some fault ≡ first_of (unknown_in_block (names_in directory)) blocks → base_of_parts rules parts ≡ Err fault
     reads_unknown fault found = by_faults None (Some fault) fine (sym (found ∙ unknown_is))
 
     reads_base : None ≡ first_of (unknown_in_block (names_in directory)) blocks

@@ -1,4 +1,4 @@
--- The parts of a file, each with its first line and the needed ones behind it.
+-- The parts of a file, each with its first line and the needed ones after it.
 use Rattle.std.proofs.Common.{◌≡◌, ℕ, ◌+◌, Bool, true, false, not, cond, Option, Some, None, List, [], ◌∷◌, ◌++◌, map, refl, sym, ap, ap₂, ◌∙◌, ⊎_elim, true≢false, append_assoc}
 use Rattle.std.specs.Prelude.{filter}
 use Rattle.std.specs.Option.{option_and_then, option_or}
@@ -8,13 +8,13 @@ use Rattle.std.proofs.lemmas.Simd.{map-map}
 use Rattle.lq_records.specs.declared.base.Rules.{Rules}
 use Rattle.lq_objects.specs.Blocks.{Line, Part, begin_part, is_closing, is_telling, numbered_line, opened_word, parts_of, telling_after}
 use Rattle.lq_objects.specs.Kinds.{kind_named}
-use Rattle.lq_names.specs.Names.{Name}
+use Rattle.lq_names.specs.Names.{ObjectName}
 use Rattle.lq_objects.specs.Names.{Block, is_of, name_of, block_names}
 use Rattle.lq_objects.specs.Needed.{is_needed}
 use Rattle.lq_objects.specs.Faults.{block_fault, block_of, blocks_of, ending_fault, first_of, inner_fault, known_block, name_fault, part_fault, parts_fault, unknown_fault, unknown_in_block}
 use Rattle.lq_objects.specs.Objects.{base_of_blocks, base_of_parts, base_or, command_of, contact_group_of, contact_of, host_group_of, host_of, lines_of_kind, objects_of, period_of, service_group_of, service_of}
-use Rattle.lq_objects.specs.declared.kind.Kind.{Kind}
-use Rattle.lq_objects.specs.declared.kind.Kind.TheVariants.{Host, Service, HostGroup, ServiceGroup, Contact, ContactGroup, Period, Command}
+use Rattle.lq_objects.specs.declared.kind.BlockKind.{BlockKind}
+use Rattle.lq_objects.specs.declared.kind.BlockKind.TheVariants.{Host, Service, HostGroup, ServiceGroup, Contact, ContactGroup, Period, Command}
 use Rattle.lq_objects.proofs.LineLemmas.{silent_first, telling_first}
 use Rattle.lq_objects.proofs.ListLemmas.{filter-filter}
 use Rattle.lq_objects.proofs.NeededLemmas.{command-needed, contact-needed, contact_group-needed, first_of-needed, host-needed, host_group-needed, inner-none, name-needed, needed, period-needed, says_nothing, service-needed, service_group-needed, unknown_in-needed}
@@ -22,7 +22,7 @@ use Rattle.lq_objects.proofs.PartLemmas.{part}
 
 -- ---- parts
 
--- the first line of a part and the needed ones behind it
+-- the first line of a part and the needed ones after it
 abbrev thin_lines : List Line → List Line
 thin_lines [] = []
 thin_lines (first ∷ lines) = first ∷ needed lines
@@ -56,7 +56,7 @@ thin-more line lines others same = ⊎_elim
 
 -- ---- a line that is left out
 
--- whether a block is open behind lines
+-- whether a block is open after lines
 abbrev pub ends_within : List Line → Bool
 ends_within [] = false
 ends_within (line ∷ []) = not (is_closing line)
@@ -110,21 +110,21 @@ thin_silent before line lines rest kept all first silent so_far =
 
 -- ---- faults
 
-ending-needed : (earlier : Kind → List Name) (opening : ℕ) (kind : Option Kind) (lines : List Line) (closing : Option Line)
+ending-needed : (earlier : BlockKind → List ObjectName) (opening : ℕ) (kind : Option BlockKind) (lines : List Line) (closing : Option Line)
     → ending_fault earlier opening kind (needed lines) closing ≡ ending_fault earlier opening kind lines closing
 ending-needed earlier opening kind lines None = refl
 ending-needed earlier opening None lines (Some closing) = refl
 ending-needed earlier opening (Some kind) lines (Some closing) =
     ap (λ name. name_fault kind (earlier kind) name closing.number) (name-needed kind lines)
 
-word-needed : (earlier : Kind → List Name) (opening : ℕ) (word : Option (List ℕ)) (lines : List Line) (closing : Option Line)
+word-needed : (earlier : BlockKind → List ObjectName) (opening : ℕ) (word : Option (List ℕ)) (lines : List Line) (closing : Option Line)
     → block_fault earlier opening word (needed lines) closing ≡ block_fault earlier opening word lines closing
 word-needed earlier opening None lines closing = refl
 word-needed earlier opening (Some word) lines closing =
     ap₂ option_or (first_of-needed (inner_fault opening (kind_named word)) (inner-none opening (kind_named word)) lines)
     (ending-needed earlier opening (kind_named word) lines closing)
 
-part-thin : (earlier : Kind → List Name) (lines : List Line) (closing : Option Line)
+part-thin : (earlier : BlockKind → List ObjectName) (lines : List Line) (closing : Option Line)
     → part_fault earlier (thin_lines lines) closing ≡ part_fault earlier lines closing
 part-thin earlier [] closing = refl
 part-thin earlier (opening ∷ lines) closing = word-needed earlier opening.number (opened_word opening.text) lines closing
@@ -134,7 +134,7 @@ part-thin earlier (opening ∷ lines) closing = word-needed earlier opening.numb
 abbrev thin_block : Block → Block
 thin_block block = record block { lines = needed block.lines }
 
-known-thin : (kind : Option Kind) (lines : List Line) → known_block kind (needed lines) ≡ map thin_block (known_block kind lines)
+known-thin : (kind : Option BlockKind) (lines : List Line) → known_block kind (needed lines) ≡ map thin_block (known_block kind lines)
 known-thin None lines = refl
 known-thin (Some kind) lines = refl
 
@@ -149,7 +149,7 @@ blocks-thin (first ∷ parts) =
     ∙ sym (map-append thin_block (block_of first.lines) (blocks_of parts))
 
 -- what is made of the lines of each block of a kind, where the needed ones give the same
-of_kind-thin : {X : Type 0} (made : List Line → X) → ((lines : List Line) → made (needed lines) ≡ made lines) → (kind : Kind) (blocks : List Block)
+of_kind-thin : {X : Type 0} (made : List Line → X) → ((lines : List Line) → made (needed lines) ≡ made lines) → (kind : BlockKind) (blocks : List Block)
     → map (λ block. made block.lines) (filter (is_of kind) (map thin_block blocks)) ≡ map (λ block. made block.lines) (filter (is_of kind) blocks)
 of_kind-thin made same kind [] = refl
 of_kind-thin made same kind (block ∷ blocks) =
@@ -163,13 +163,13 @@ names-thin : (blocks : List Block) → block_names (map thin_block blocks) ≡ b
 names-thin blocks = λ i kind. of_kind-thin (name_of kind) (name-needed kind) kind blocks i
 
 objects-of_kind : {X : Type 0} (object_of : List Line → X) → ((lines : List Line) → object_of (needed lines) ≡ object_of lines)
-    → (kind : Kind) (blocks : List Block) → map object_of (lines_of_kind kind (map thin_block blocks)) ≡ map object_of (lines_of_kind kind blocks)
+    → (kind : BlockKind) (blocks : List Block) → map object_of (lines_of_kind kind (map thin_block blocks)) ≡ map object_of (lines_of_kind kind blocks)
 objects-of_kind object_of same kind blocks =
     map-map object_of (λ (block : Block). block.lines) (filter (is_of kind) (map thin_block blocks))
     ∙ of_kind-thin object_of same kind blocks
     ∙ sym (map-map object_of (λ (block : Block). block.lines) (filter (is_of kind) blocks))
 
-objects-thin : (known : Kind → List Name) (rules : Rules) (blocks : List Block)
+objects-thin : (known : BlockKind → List ObjectName) (rules : Rules) (blocks : List Block)
     → objects_of known rules (map thin_block blocks) ≡ objects_of known rules blocks
 objects-thin known rules blocks =
     λ i. record {
@@ -184,7 +184,7 @@ objects-thin known rules blocks =
       rules = rules;
     }
 
-unknown-thin : (known : Kind → List Name) (blocks : List Block)
+unknown-thin : (known : BlockKind → List ObjectName) (blocks : List Block)
     → first_of (unknown_in_block known) (map thin_block blocks) ≡ first_of (unknown_in_block known) blocks
 unknown-thin known [] = refl
 unknown-thin known (block ∷ blocks) = ap₂ option_or (unknown_in-needed known block.kind block.lines) (unknown-thin known blocks)

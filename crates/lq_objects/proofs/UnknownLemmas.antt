@@ -4,17 +4,17 @@ use Rattle.std.specs.Prelude.{find, is_some, option_map}
 use Rattle.std.specs.List.{list_any}
 use Rattle.std.specs.Option.{option_map_or, option_or}
 use Rattle.std.proofs.lemmas.List.{drop_more}
-use Rattle.lq_names.specs.Names.{Name}
+use Rattle.lq_names.specs.Names.{ObjectName}
 use Rattle.lq_objects.specs.Blocks.{Line, is_named, value_of}
 use Rattle.lq_objects.specs.Kinds.{reference_directive, references}
 use Rattle.lq_objects.specs.Faults.{fault_if, first_of, is_unknown, lacks_any_named, lacks_named, names_unknown, unknown_in, unknown_in_block}
 use Rattle.lq_objects.specs.Checks.{Tells}
 use Rattle.lq_objects.specs.Names.{Block}
-use Rattle.lq_objects.specs.declared.fault.Fault.{Fault}
+use Rattle.lq_objects.specs.declared.fault.FaultyLine.{FaultyLine}
 use Rattle.lq_objects.specs.declared.fault.ObjectsErr.{ObjectsErr}
 use Rattle.lq_objects.specs.declared.fault.ObjectsErr.TheVariants.{At, Memory}
 use Rattle.lq_objects.specs.declared.fault.ObjectsWhat.TheVariants.{UnknownName}
-use Rattle.lq_objects.specs.declared.kind.Kind.{Kind}
+use Rattle.lq_objects.specs.declared.kind.BlockKind.{BlockKind}
 use Rattle.lq_objects.specs.declared.kind.Reference.{Reference}
 use Rattle.lq_objects.proofs.ListLemmas.{find-last}
 
@@ -82,7 +82,7 @@ mapped : {X Y : Type 0} (unknown : Y → Bool) (said : X → Y) (found : Option 
 mapped unknown said None = refl
 mapped unknown said (Some x) = refl
 
-module _ (known : Kind → List Name) where
+module _ (known : BlockKind → List ObjectName) where
   lacks_by_line : (line : Line) (later : List Line) (reference : Reference)
       → lacks_named known (line ∷ later) reference ≡ (names_unknown known line later reference || lacks_named known later reference)
   lacks_by_line line later reference =
@@ -95,12 +95,12 @@ module _ (known : Kind → List Name) where
       ∙ decided unknown (named line) line found
       ∙ ap₂ (λ any rest. ((named line && not any) && unknown line) || rest) (last_found named later) (sym (mapped (is_unknown known reference) said found))
 
-  fault-or : (test : Bool) (line : ℕ) (later : Option Fault) → is_some (option_or (fault_if test line UnknownName) later) ≡ (test || is_some later)
+  fault-or : (test : Bool) (line : ℕ) (later : Option FaultyLine) → is_some (option_or (fault_if test line UnknownName) later) ≡ (test || is_some later)
   fault-or true line later = refl
   fault-or false line later = refl
 
   -- a line is at fault where a directive lacks what it names
-  pub unknown-lacks : (kind : Kind) (lines : List Line) → is_some (unknown_in known kind lines) ≡ lacks_any_named known lines (references kind)
+  pub unknown-lacks : (kind : BlockKind) (lines : List Line) → is_some (unknown_in known kind lines) ≡ lacks_any_named known lines (references kind)
   unknown-lacks kind [] = sym (any_of_none (references kind))
   unknown-lacks kind (line ∷ later) =
       fault-or (list_any (names_unknown known line later) (references kind)) line.number (unknown_in known kind later)
@@ -109,7 +109,7 @@ module _ (known : Kind → List Name) where
       ∙ (λ i. list_any (λ reference. sym (lacks_by_line line later reference) i) (references kind))
 
   -- the same of a block
-  pub unknown-block : (block : Block) (kind : Kind) (lines : List Line) → kind ≡ block.kind → lines ≡ block.lines
+  pub unknown-block : (block : Block) (kind : BlockKind) (lines : List Line) → kind ≡ block.kind → lines ≡ block.lines
       → lacks_any_named known lines (references kind) ≡ is_some (unknown_in_block known block)
   unknown-block block kind lines same_kind same_lines =
       ap₂ (λ kind lines. lacks_any_named known lines (references kind)) same_kind same_lines
@@ -117,15 +117,15 @@ module _ (known : Kind → List Name) where
 
 -- ---- blocks
 
-pub first-here : {X : Type 0} (fault : X → Option Fault) (blocks : List X) (at : ℕ) (block : X) → at < length blocks → block ≡ get_or blocks at block
+pub first-here : {X : Type 0} (fault : X → Option FaultyLine) (blocks : List X) (at : ℕ) (block : X) → at < length blocks → block ≡ get_or blocks at block
     → first_of fault (drop at blocks) ≡ option_or (fault block) (first_of fault (drop (at + 1) blocks))
 first-here fault blocks at block within is =
     ap (first_of fault) (drop_more blocks at block within ∙ ap (λ next. next ∷ drop (at + 1) blocks) (sym is))
 
-pub tells-first : (error : ObjectsErr) (first later : Option Fault) → Tells error first → Tells error (option_or first later)
+pub tells-first : (error : ObjectsErr) (first later : Option FaultyLine) → Tells error first → Tells error (option_or first later)
 tells-first (At line what) first later tells = ap (λ fault. option_or fault later) tells
 tells-first (Memory _) first later tells = tt
 
-pub none-first : (first later : Option Fault) → is_some first ≡ false → later ≡ option_or first later
+pub none-first : (first later : Option FaultyLine) → is_some first ≡ false → later ≡ option_or first later
 none-first None later none = refl
 none-first (Some fault) later none = absurd (true≢false none)

@@ -1,11 +1,11 @@
 -- The names of the objects so far, by kind.
 use Rattle.std.specs.Prelude.{◌≡◌, List, [], ◌∷◌, ◌++◌, map}
-use Rattle.lq_names.specs.Names.{Name, both_parts}
+use Rattle.lq_names.specs.Names.{ObjectName, both_parts}
 use Rattle.lq_records.specs.declared.base.Base.{Base}
 use Rattle.lq_objects.specs.Names.{Block, block_names}
-use Rattle.lq_objects.specs.declared.kind.Kind.{Kind}
-use Rattle.lq_objects.specs.declared.kind.Kind.TheVariants.{Host, Service, HostGroup, ServiceGroup}
-use Rattle.lq_objects.specs.declared.kind.Kind.TheVariants.{Contact, ContactGroup, Period, Command}
+use Rattle.lq_objects.specs.declared.kind.BlockKind.{BlockKind}
+use Rattle.lq_objects.specs.declared.kind.BlockKind.TheVariants.{Host, Service, HostGroup, ServiceGroup}
+use Rattle.lq_objects.specs.declared.kind.BlockKind.TheVariants.{Contact, ContactGroup, Period, Command}
 use Rattle.lq_objects.specs.declared.directory.Directory.{Directory}
 
 abbrev pub empty : Directory
@@ -21,7 +21,7 @@ empty = record {
 }
 
 -- the names of a kind
-abbrev pub names_in : Directory → Kind → List Name
+abbrev pub names_in : Directory → BlockKind → List ObjectName
 names_in directory Host = directory.hosts
 names_in directory Service = directory.services
 names_in directory HostGroup = directory.host_groups
@@ -31,7 +31,7 @@ names_in directory ContactGroup = directory.contact_groups
 names_in directory Period = directory.periods
 names_in directory Command = directory.commands
 
-abbrev pub with_name : Directory → Kind → Name → Directory
+abbrev pub with_name : Directory → BlockKind → ObjectName → Directory
 with_name directory Host name = record directory { hosts = directory.hosts ++ name ∷ [] }
 with_name directory Service name = record directory { services = directory.services ++ name ∷ [] }
 with_name directory HostGroup name =

@@ -1,14 +1,14 @@
 -- The objects that are gathered while a file is read.
 use Rattle.std.specs.Prelude.{ℕ, List, [], codes, length}
-use Rattle.lq_names.specs.Names.{Name, both_parts}
+use Rattle.lq_names.specs.Names.{ObjectName, both_parts}
 use Rattle.lq_records.specs.declared.base.Base.{Base}
 use Rattle.lq_records.specs.declared.base.ObjectFields.{ObjectFields}
 use Rattle.lq_objects.specs.Blocks.{Line}
 use Rattle.lq_objects.specs.Names.{name_of, text_or}
 use Rattle.lq_objects.specs.Objects.{custom_variables, ids, number_or}
 use Rattle.lq_objects.specs.declared.draft.Draft.{Draft}
-use Rattle.lq_objects.specs.declared.kind.Kind.{Kind}
-use Rattle.lq_objects.specs.declared.kind.Kind.TheVariants as kind
+use Rattle.lq_objects.specs.declared.kind.BlockKind.{BlockKind}
+use Rattle.lq_objects.specs.declared.kind.BlockKind.TheVariants as kind
 use Rattle.lq_objects.specs.declared.kind.Reference.TheVariants as reference
 
 -- the base of the objects so far
@@ -26,7 +26,7 @@ base_of_draft draft = record {
 }
 
 -- how many objects of a kind there are
-abbrev pub count_of_kind : Base → Kind → ℕ
+abbrev pub count_of_kind : Base → BlockKind → ℕ
 count_of_kind base kind.Host = length base.hosts
 count_of_kind base kind.Service = length base.services
 count_of_kind base kind.HostGroup = length base.host_groups
@@ -37,7 +37,7 @@ count_of_kind base kind.Period = length base.periods
 count_of_kind base kind.Command = length base.commands
 
 -- both parts of the name that a block of a kind gives its object
-abbrev pub own_name_of : Kind → List Line → List ℕ × List ℕ
+abbrev pub own_name_of : BlockKind → List Line → List ℕ × List ℕ
 own_name_of kind lines = both_parts (name_of kind lines)
 
 -- ---- what hosts and services share, field by field
@@ -74,7 +74,7 @@ with_texts own_name lines fields = record fields {
 }
 
 -- the same with their lists
-abbrev pub with_lists : (Kind → List Name) → List Line → ObjectFields → ObjectFields
+abbrev pub with_lists : (BlockKind → List ObjectName) → List Line → ObjectFields → ObjectFields
 with_lists known lines fields = record fields {
   contacts = ids (λ place. record { 0 = place }) known reference.Contacts lines;
   contact_groups = ids (λ place. record { 0 = place }) known reference.ContactGroups lines;

@@ -9,23 +9,23 @@ use Rattle.lq_text.specs.Numbers.{number_of}
 use Rattle.lq_objects.specs.Blocks.{directive, Line, Part, is_named, value_of, opened_word}
 use Rattle.lq_objects.specs.Kinds.{kind_named, limit, second_directive, references}
 use Rattle.lq_objects.specs.Kinds.{reference_directive, target}
-use Rattle.lq_names.specs.Names.{Name, is_equal_name, place_of}
+use Rattle.lq_names.specs.Names.{ObjectName, is_equal_name, place_of}
 use Rattle.lq_objects.specs.Names.{Block, name_of, named_in, block_names}
-use Rattle.lq_objects.specs.declared.kind.Kind.{Kind}
-use Rattle.lq_objects.specs.declared.kind.Kind.TheVariants as kind
+use Rattle.lq_objects.specs.declared.kind.BlockKind.{BlockKind}
+use Rattle.lq_objects.specs.declared.kind.BlockKind.TheVariants as kind
 use Rattle.lq_objects.specs.declared.kind.Reference.{Reference}
-use Rattle.lq_objects.specs.declared.fault.Fault.{Fault}
+use Rattle.lq_objects.specs.declared.fault.FaultyLine.{FaultyLine}
 use Rattle.lq_objects.specs.declared.fault.ObjectsWhat.{ObjectsWhat}
 use Rattle.lq_objects.specs.declared.fault.ObjectsWhat.TheVariants.{Stray, NotFlattened, BadNumber}
 use Rattle.lq_objects.specs.declared.fault.ObjectsWhat.TheVariants.{NoName, BadName, Twice, TooMany}
 use Rattle.lq_objects.specs.declared.fault.ObjectsWhat.TheVariants.{Unclosed, UnknownName}
 
 -- a fault at a line, where a test holds
-abbrev pub fault_if : Bool → ℕ → ObjectsWhat → Option Fault
+abbrev pub fault_if : Bool → ℕ → ObjectsWhat → Option FaultyLine
 fault_if test line what = if test then Some (record { line = line; what = what }) else None
 
 -- the first fault of all
-abbrev pub first_of : {X : Type 0} → (X → Option Fault) → List X → Option Fault
+abbrev pub first_of : {X : Type 0} → (X → Option FaultyLine) → List X → Option FaultyLine
 first_of f [] = None
 first_of f (x ∷ xs) = option_or (f x) (first_of f xs)
 
@@ -44,7 +44,7 @@ is_bad least most name text =
     is_named name text && is_none (number_between least most (value_of name text))
 
 -- hosts and services have numbers
-abbrev pub has_numbers : Kind → Bool
+abbrev pub has_numbers : BlockKind → Bool
 has_numbers kind.Host = true
 has_numbers kind.Service = true
 has_numbers kind.HostGroup = false
@@ -54,7 +54,7 @@ has_numbers kind.ContactGroup = false
 has_numbers kind.Period = false
 has_numbers kind.Command = false
 
-abbrev pub is_bad_number : Kind → List ℕ → Bool
+abbrev pub is_bad_number : BlockKind → List ℕ → Bool
 is_bad_number kind text =
     has_numbers kind
     && (is_bad 1 1000000 (codes "max_check_attempts") text
@@ -65,14 +65,14 @@ abbrev pub is_template : List ℕ → Bool
 is_template text = is_named (codes "use") text || is_named (codes "register") text
 
 -- the fault of a line in a block of a known kind
-abbrev pub directive_fault : Kind → Line → Option Fault
+abbrev pub directive_fault : BlockKind → Line → Option FaultyLine
 directive_fault kind line =
     option_or (fault_if (is_template line.text) line.number NotFlattened)
     (fault_if (is_bad_number kind line.text) line.number BadNumber)
 
 -- the fault of a line in a block that the line `opening` opens; another opening line shows that it
 -- isn't closed
-abbrev pub inner_fault : ℕ → Option Kind → Line → Option Fault
+abbrev pub inner_fault : ℕ → Option BlockKind → Line → Option FaultyLine
 inner_fault opening None line = fault_if (is_some (opened_word line.text)) opening Unclosed
 inner_fault opening (Some kind) line =
     option_or (fault_if (is_some (opened_word line.text)) opening Unclosed)
@@ -83,7 +83,7 @@ inner_fault opening (Some kind) line =
 abbrev pub is_empty : List ℕ → Bool
 is_empty text = length text == 0
 
-abbrev pub lacks_name : Kind → Name → Bool
+abbrev pub lacks_name : BlockKind → ObjectName → Bool
 lacks_name kind name =
     is_empty name.first || (is_some (second_directive kind) && is_empty name.second)
 
@@ -91,11 +91,11 @@ lacks_name kind name =
 abbrev pub has_separator : List ℕ → Bool
 has_separator text = list_any (λ byte. byte == 59) text
 
-abbrev pub is_bad_name : Kind → Name → Bool
+abbrev pub is_bad_name : BlockKind → ObjectName → Bool
 is_bad_name kind name = has_numbers kind && (has_separator name.first || has_separator name.second)
 
 -- the fault of an object, by its name and the earlier ones of its kind
-abbrev pub name_fault : Kind → List Name → Name → ℕ → Option Fault
+abbrev pub name_fault : BlockKind → List ObjectName → ObjectName → ℕ → Option FaultyLine
 name_fault kind earlier name line =
     option_or (fault_if (lacks_name kind name) line NoName)
     (option_or (fault_if (is_bad_name kind name) line BadName)
@@ -105,37 +105,37 @@ name_fault kind earlier name line =
 -- ---- a part
 
 -- the fault where a block ends: it isn't closed, or its object's name is at fault
-abbrev pub ending_fault : (Kind → List Name) → ℕ → Option Kind → List Line → Option Line
-    → Option Fault
+abbrev pub ending_fault : (BlockKind → List ObjectName) → ℕ → Option BlockKind → List Line → Option Line
+    → Option FaultyLine
 ending_fault earlier opening kind lines None = Some (record { line = opening; what = Unclosed })
 ending_fault earlier opening None lines (Some closing) = None
 ending_fault earlier opening (Some kind) lines (Some closing) =
     name_fault kind (earlier kind) (name_of kind lines) closing.number
 
 -- the fault of a block that is open, by its kind
-abbrev pub opened_fault : (Kind → List Name) → ℕ → Option Kind → List Line → Option Line
-    → Option Fault
+abbrev pub opened_fault : (BlockKind → List ObjectName) → ℕ → Option BlockKind → List Line → Option Line
+    → Option FaultyLine
 opened_fault earlier opening kind lines closing =
     option_or (first_of (inner_fault opening kind) lines)
     (ending_fault earlier opening kind lines closing)
 
 -- the fault of a block, by the word after `define`
-abbrev pub block_fault : (Kind → List Name) → ℕ → Option (List ℕ) → List Line → Option Line
-    → Option Fault
+abbrev pub block_fault : (BlockKind → List ObjectName) → ℕ → Option (List ℕ) → List Line → Option Line
+    → Option FaultyLine
 block_fault earlier opening None lines closing = Some (record { line = opening; what = Stray })
 block_fault earlier opening (Some word) lines closing =
     opened_fault earlier opening (kind_named word) lines closing
 
 -- the fault of a part, by the names in the parts before it; its first line opens a block, or is
 -- stray
-abbrev pub part_fault : (Kind → List Name) → List Line → Option Line → Option Fault
+abbrev pub part_fault : (BlockKind → List ObjectName) → List Line → Option Line → Option FaultyLine
 part_fault earlier [] None = None
 part_fault earlier [] (Some closing) = Some (record { line = closing.number; what = Stray })
 part_fault earlier (opening ∷ lines) closing =
     block_fault earlier opening.number (opened_word opening.text) lines closing
 
 -- the block that a part is, where its kind is known
-abbrev pub known_block : Option Kind → List Line → List Block
+abbrev pub known_block : Option BlockKind → List Line → List Block
 known_block None lines = []
 known_block (Some kind) lines = record { kind = kind; lines = lines } ∷ []
 
@@ -145,7 +145,7 @@ block_of (opening ∷ lines) =
     known_block (option_and_then kind_named (opened_word opening.text)) lines
 
 -- the first fault of all the parts, each after the blocks before it
-abbrev pub parts_fault : List Block → List Part → Option Fault
+abbrev pub parts_fault : List Block → List Part → Option FaultyLine
 parts_fault before [] = None
 parts_fault before (part ∷ parts) =
     option_or (part_fault (block_names before) part.lines part.closing)
@@ -154,20 +154,20 @@ parts_fault before (part ∷ parts) =
 -- ---- names that aren't there
 
 -- whether a value names what isn't there
-abbrev pub is_unknown : (Kind → List Name) → Reference → List ℕ → Bool
+abbrev pub is_unknown : (BlockKind → List ObjectName) → Reference → List ℕ → Bool
 is_unknown known reference value =
     option_map_or
     (λ names. list_any (λ name. is_none (place_of (known (target reference)) name)) names)
     (named_in reference value) true
 
 -- whether a block's directive names what isn't there
-abbrev pub lacks_named : (Kind → List Name) → List Line → Reference → Bool
+abbrev pub lacks_named : (BlockKind → List ObjectName) → List Line → Reference → Bool
 lacks_named known lines reference =
     option_map_or (is_unknown known reference) (directive (reference_directive reference) lines)
     false
 
 -- whether one of a block's directives does
-abbrev pub lacks_any_named : (Kind → List Name) → List Line → List Reference → Bool
+abbrev pub lacks_any_named : (BlockKind → List ObjectName) → List Line → List Reference → Bool
 lacks_any_named known lines references = list_any (lacks_named known lines) references
 
 -- whether a line is the last one with a directive, so that it decides
@@ -175,23 +175,23 @@ abbrev pub decides : List ℕ → Line → List Line → Bool
 decides name line later =
     is_named name line.text && not (list_any (λ other. is_named name other.text) later)
 
-abbrev pub names_unknown : (Kind → List Name) → Line → List Line → Reference → Bool
+abbrev pub names_unknown : (BlockKind → List ObjectName) → Line → List Line → Reference → Bool
 names_unknown known line later reference =
     decides (reference_directive reference) line later
     && is_unknown known reference (value_of (reference_directive reference) line.text)
 
 -- the first line of a block that decides and names what isn't there
-abbrev pub unknown_in : (Kind → List Name) → Kind → List Line → Option Fault
+abbrev pub unknown_in : (BlockKind → List ObjectName) → BlockKind → List Line → Option FaultyLine
 unknown_in known kind [] = None
 unknown_in known kind (line ∷ later) =
     option_or
     (fault_if (list_any (names_unknown known line later) (references kind)) line.number UnknownName)
     (unknown_in known kind later)
 
-abbrev pub unknown_in_block : (Kind → List Name) → Block → Option Fault
+abbrev pub unknown_in_block : (BlockKind → List ObjectName) → Block → Option FaultyLine
 unknown_in_block known block = unknown_in known block.kind block.lines
 
-abbrev pub unknown_fault : List Block → Option Fault
+abbrev pub unknown_fault : List Block → Option FaultyLine
 unknown_fault blocks = first_of (unknown_in_block (block_names blocks)) blocks
 
 -- ---- the file
@@ -201,5 +201,5 @@ blocks_of [] = []
 blocks_of (part ∷ parts) = block_of part.lines ++ blocks_of parts
 
 -- the first fault of a file, names that aren't there after all others
-abbrev pub fault_of : List Part → Option Fault
+abbrev pub fault_of : List Part → Option FaultyLine
 fault_of parts = option_or (parts_fault [] parts) (unknown_fault (blocks_of parts))

@@ -1,16 +1,16 @@
 -- The kinds of objects, the directives that name an object, and those that name others.
 use Rattle.std.specs.Prelude.{ℕ, Option, Some, None, List, [], ◌∷◌, find, bytes_eq, codes}
-use Rattle.lq_objects.specs.declared.kind.Kind.{Kind}
-use Rattle.lq_objects.specs.declared.kind.Kind.TheVariants.{Host, Service, HostGroup, ServiceGroup}
-use Rattle.lq_objects.specs.declared.kind.Kind.TheVariants.{Contact, ContactGroup, Period, Command}
+use Rattle.lq_objects.specs.declared.kind.BlockKind.{BlockKind}
+use Rattle.lq_objects.specs.declared.kind.BlockKind.TheVariants.{Host, Service, HostGroup, ServiceGroup}
+use Rattle.lq_objects.specs.declared.kind.BlockKind.TheVariants.{Contact, ContactGroup, Period, Command}
 use Rattle.lq_objects.specs.declared.kind.Reference.{Reference}
 use Rattle.lq_objects.specs.declared.kind.Reference.TheVariants as reference
 
-abbrev pub kinds : List Kind
+abbrev pub kinds : List BlockKind
 kinds = Host ∷ Service ∷ HostGroup ∷ ServiceGroup ∷ Contact ∷ ContactGroup ∷ Period ∷ Command ∷ []
 
 -- the word after `define`
-abbrev pub kind_word : Kind → List ℕ
+abbrev pub kind_word : BlockKind → List ℕ
 kind_word Host = codes "host"
 kind_word Service = codes "service"
 kind_word HostGroup = codes "hostgroup"
@@ -21,11 +21,11 @@ kind_word Period = codes "timeperiod"
 kind_word Command = codes "command"
 
 -- the kind that a word names; other kinds are skipped
-abbrev pub kind_named : List ℕ → Option Kind
+abbrev pub kind_named : List ℕ → Option BlockKind
 kind_named word = find (λ kind. bytes_eq word (kind_word kind)) kinds
 
 -- how many objects of a kind there may be
-abbrev pub limit : Kind → ℕ
+abbrev pub limit : BlockKind → ℕ
 limit Host = 10000
 limit Service = 60000
 limit HostGroup = 1000
@@ -37,7 +37,7 @@ limit Command = 10000
 
 -- ---- the directives that name an object
 
-abbrev pub name_directive : Kind → List ℕ
+abbrev pub name_directive : BlockKind → List ℕ
 name_directive Host = codes "host_name"
 name_directive Service = codes "host_name"
 name_directive HostGroup = codes "hostgroup_name"
@@ -48,7 +48,7 @@ name_directive Period = codes "timeperiod_name"
 name_directive Command = codes "command_name"
 
 -- a service's name has a second part
-abbrev pub second_directive : Kind → Option (List ℕ)
+abbrev pub second_directive : BlockKind → Option (List ℕ)
 second_directive Host = None
 second_directive Service = Some (codes "service_description")
 second_directive HostGroup = None
@@ -64,7 +64,7 @@ second_directive Command = None
 abbrev pub fields_references : List Reference
 fields_references = reference.Contacts ∷ reference.ContactGroups ∷ []
 
-abbrev pub references : Kind → List Reference
+abbrev pub references : BlockKind → List Reference
 references Host = reference.Parents ∷ fields_references
 references Service = reference.ServiceHost ∷ fields_references
 references HostGroup = reference.MemberHosts ∷ []
@@ -84,7 +84,7 @@ reference_directive reference.MemberServices = codes "members"
 reference_directive reference.MemberContacts = codes "members"
 
 -- what the names are of
-abbrev pub target : Reference → Kind
+abbrev pub target : Reference → BlockKind
 target reference.Parents = Host
 target reference.ServiceHost = Host
 target reference.Contacts = Contact

@@ -19,12 +19,12 @@ use Rattle.lq_records.specs.declared.base.Period.{Period}
 use Rattle.lq_records.specs.declared.base.Command.{Command}
 use Rattle.lq_objects.specs.Blocks.{Line, Part, directive, parts_of, telling_lines, value_of}
 use Rattle.lq_objects.specs.Kinds.{reference_directive, target}
-use Rattle.lq_names.specs.Names.{Name, place_of}
+use Rattle.lq_names.specs.Names.{ObjectName, place_of}
 use Rattle.lq_objects.specs.Names.{Block, is_of, named_in, block_names, text_or}
 use Rattle.lq_objects.specs.Faults.{blocks_of, fault_of, number_between}
-use Rattle.lq_objects.specs.declared.fault.Fault.{Fault}
-use Rattle.lq_objects.specs.declared.kind.Kind.{Kind}
-use Rattle.lq_objects.specs.declared.kind.Kind.TheVariants as kind
+use Rattle.lq_objects.specs.declared.fault.FaultyLine.{FaultyLine}
+use Rattle.lq_objects.specs.declared.kind.BlockKind.{BlockKind}
+use Rattle.lq_objects.specs.declared.kind.BlockKind.TheVariants as kind
 use Rattle.lq_objects.specs.declared.kind.Reference.{Reference}
 use Rattle.lq_objects.specs.declared.kind.Reference.TheVariants as reference
 
@@ -36,18 +36,18 @@ distinct [] = []
 distinct (x ∷ xs) = x ∷ filter (λ y. not (nat_eq x y)) (distinct xs)
 
 -- the places of the objects that a value names, without repeats
-abbrev pub places_in : (Kind → List Name) → Reference → List ℕ → List ℕ
+abbrev pub places_in : (BlockKind → List ObjectName) → Reference → List ℕ → List ℕ
 places_in known reference value =
     distinct (filter_map (place_of (known (target reference)))
     (unwrap_or (named_in reference value) []))
 
 -- the places of the objects that a block's directive names
-abbrev pub places : (Kind → List Name) → Reference → List Line → List ℕ
+abbrev pub places : (BlockKind → List ObjectName) → Reference → List Line → List ℕ
 places known reference lines =
     option_map_or (places_in known reference) (directive (reference_directive reference) lines) []
 
 -- the ids of the objects at those places, each made of its place by `id_at`
-abbrev pub ids : {Id : Type 0} → (ℕ → Id) → (Kind → List Name) → Reference → List Line → List Id
+abbrev pub ids : {Id : Type 0} → (ℕ → Id) → (BlockKind → List ObjectName) → Reference → List Line → List Id
 ids id_at known reference lines = map id_at (places known reference lines)
 
 -- ---- fields
@@ -88,7 +88,7 @@ custom_variables lines =
     merged_variables (map variable_of (filter (λ line. is_variable line.text) lines))
 
 -- what hosts and services share; the display name is the object's own where it is absent
-abbrev pub fields_of : (Kind → List Name) → List ℕ → List Line → ObjectFields
+abbrev pub fields_of : (BlockKind → List ObjectName) → List ℕ → List Line → ObjectFields
 fields_of known own_name lines = record {
   display_name = text_or own_name (codes "display_name") lines;
   check_command = text_or [] (codes "check_command") lines;
@@ -107,7 +107,7 @@ fields_of known own_name lines = record {
 
 -- ---- objects
 
-abbrev pub host_of : (Kind → List Name) → List Line → Host
+abbrev pub host_of : (BlockKind → List ObjectName) → List Line → Host
 host_of known lines =
     let name : List ℕ = text_or [] (codes "host_name") lines in
     record {
@@ -124,7 +124,7 @@ abbrev pub host_place : List ℕ → ℕ
 host_place [] = 0
 host_place (place ∷ places) = place
 
-abbrev pub service_of : (Kind → List Name) → List Line → Service
+abbrev pub service_of : (BlockKind → List ObjectName) → List Line → Service
 service_of known lines =
     let name : List ℕ = text_or [] (codes "service_description") lines in
     record {
@@ -134,7 +134,7 @@ service_of known lines =
       fields = fields_of known name lines;
     }
 
-abbrev pub host_group_of : (Kind → List Name) → List Line → HostGroup
+abbrev pub host_group_of : (BlockKind → List ObjectName) → List Line → HostGroup
 host_group_of known lines =
     let name : List ℕ = text_or [] (codes "hostgroup_name") lines in
     record {
@@ -146,7 +146,7 @@ host_group_of known lines =
       action_url = text_or [] (codes "action_url") lines;
     }
 
-abbrev pub service_group_of : (Kind → List Name) → List Line → ServiceGroup
+abbrev pub service_group_of : (BlockKind → List ObjectName) → List Line → ServiceGroup
 service_group_of known lines =
     let name : List ℕ = text_or [] (codes "servicegroup_name") lines in
     record {
@@ -170,7 +170,7 @@ contact_of lines =
       service_notification_period = text_or [] (codes "service_notification_period") lines;
     }
 
-abbrev pub contact_group_of : (Kind → List Name) → List Line → ContactGroup
+abbrev pub contact_group_of : (BlockKind → List ObjectName) → List Line → ContactGroup
 contact_group_of known lines =
     let name : List ℕ = text_or [] (codes "contactgroup_name") lines in
     record {
@@ -193,11 +193,11 @@ command_of lines = record {
 -- ---- the base
 
 -- the lines of the blocks of a kind
-abbrev pub lines_of_kind : Kind → List Block → List (List Line)
+abbrev pub lines_of_kind : BlockKind → List Block → List (List Line)
 lines_of_kind kind blocks = map (λ block. block.lines) (filter (is_of kind) blocks)
 
 -- the objects of blocks, by the names of all
-abbrev pub objects_of : (Kind → List Name) → Rules → List Block → Base
+abbrev pub objects_of : (BlockKind → List ObjectName) → Rules → List Block → Base
 objects_of known rules blocks = record {
   hosts = map (host_of known) (lines_of_kind kind.Host blocks);
   services = map (service_of known) (lines_of_kind kind.Service blocks);
@@ -211,7 +211,7 @@ objects_of known rules blocks = record {
 }
 
 -- the objects with the one of a further block
-abbrev pub with_object : (Kind → List Name) → Base → Kind → List Line → Base
+abbrev pub with_object : (BlockKind → List ObjectName) → Base → BlockKind → List Line → Base
 with_object known base kind.Host lines =
     record base { hosts = base.hosts ++ host_of known lines ∷ [] }
 with_object known base kind.Service lines =
@@ -229,7 +229,7 @@ with_object known base kind.Period lines =
 with_object known base kind.Command lines =
     record base { commands = base.commands ++ command_of lines ∷ [] }
 
-abbrev pub base_or : Option Fault → Base → Result Base Fault
+abbrev pub base_or : Option FaultyLine → Base → Result Base FaultyLine
 base_or None base = Ok base
 base_or (Some fault) base = Err fault
 
@@ -237,9 +237,9 @@ abbrev pub base_of_blocks : Rules → List Block → Base
 base_of_blocks rules blocks = objects_of (block_names blocks) rules blocks
 
 -- the base that the parts of a file say, or the first fault in them
-abbrev pub base_of_parts : Rules → List Part → Result Base Fault
+abbrev pub base_of_parts : Rules → List Part → Result Base FaultyLine
 base_of_parts rules parts = base_or (fault_of parts) (base_of_blocks rules (blocks_of parts))
 
 -- the base that the bytes of an object file say, or the first fault in them
-unfoldable pub base_of : List ℕ → Rules → Result Base Fault
+unfoldable pub base_of : List ℕ → Rules → Result Base FaultyLine
 base_of bytes rules = base_of_parts rules (parts_of (telling_lines bytes))

@@ -1,6 +1,6 @@
 -- What reading an object file answers.
 use Rattle.std.specs.Prelude.{◌≡◌, ℕ, Result, Ok, Err, List, codes}
-use Rattle.lq_objects.specs.declared.fault.Fault.{Fault}
+use Rattle.lq_objects.specs.declared.fault.FaultyLine.{FaultyLine}
 use Rattle.lq_objects.specs.declared.fault.ObjectsErr.{ObjectsErr}
 use Rattle.lq_objects.specs.declared.fault.ObjectsErr.TheVariants.{At, Memory}
 use Rattle.lq_objects.specs.declared.fault.ObjectsWhat.{ObjectsWhat}
@@ -9,7 +9,7 @@ use Rattle.lq_objects.specs.declared.fault.ObjectsWhat.TheVariants.{NoName, BadN
 use Rattle.lq_objects.specs.declared.fault.ObjectsWhat.TheVariants.{Unclosed, UnknownName}
 
 -- a result is what was read, or out of memory
-abbrev pub Reads : {X : Type 0} → Result X ObjectsErr → Result X Fault → Type 0
+abbrev pub Reads : {X : Type 0} → Result X ObjectsErr → Result X FaultyLine → Type 0
 Reads (Ok found) read = read ≡ Ok found
 Reads (Err (At line what)) read = read ≡ Err (record { line = line; what = what })
 Reads (Err (Memory _)) read = Unit {0}

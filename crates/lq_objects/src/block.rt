@@ -1,13 +1,13 @@
 ghost use Rattle.std.specs.Prelude.{◌≡◌};
 
-use crate::kind::Kind;
+use crate::kind::BlockKind;
 use crate::line::Line;
 use std::marker::Model;
 
 /// A block of a known kind, with the lines in it.
 #[derive(Drop)]
 pub(crate) struct Block<'p, 'a> {
-    kind: Kind,
+    kind: BlockKind,
     lines: &'p [Line<'a>],
 }
 
@@ -20,13 +20,13 @@ impl<'p, 'a> Model for Block<'p, 'a> {
 }
 
 impl<'p, 'a> Block<'p, 'a> {
-    pub(crate) fn new(kind: Kind, lines: &'p [Line<'a>]) -> Self
+    pub(crate) fn new(kind: BlockKind, lines: &'p [Line<'a>]) -> Self
         ensures { result ≡ record { kind = kind; lines = lines.now } }
     {
         Block { kind, lines }
     }
 
-    pub(crate) fn kind(&self) -> Kind
+    pub(crate) fn kind(&self) -> BlockKind
         ensures { result ≡ self.now.kind }
     {
         self.kind

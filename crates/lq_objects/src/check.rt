@@ -10,13 +10,13 @@ ghost use Rattle.lq_names.specs.Names.{place_of};
 use crate::block::Block;
 use crate::directive::{is_bad_number, is_template};
 use crate::directory::Directory;
-use crate::fault::{Fault, ObjectsErr, ObjectsWhat};
-use crate::kind::Kind;
+use crate::fault::{FaultyLine, ObjectsErr, ObjectsWhat};
+use crate::kind::BlockKind;
 use crate::line::Line;
 use crate::name::name_of;
 use crate::part::Part;
 use crate::texts::Texts;
-use lq_names::{Name, NameIndex};
+use lq_names::{NameIndex, ObjectName};
 
 /// The block that a part is, where its kind is known, or the first fault in the part. The name of
 /// the block's object goes into the directory.
@@ -42,7 +42,7 @@ pub(crate) fn read_part<'p, 'a>(
     };
     let opened = Opened {
         opening: opening.number(),
-        kind: Kind::of_word(word),
+        kind: BlockKind::of_word(word),
         lines,
         closing: part.closing,
     };
@@ -54,7 +54,7 @@ pub(crate) fn read_part<'p, 'a>(
 #[derive(Drop)]
 struct Opened<'p, 'a> {
     opening: u64,
-    kind: Option<Kind>,
+    kind: Option<BlockKind>,
     lines: &'p [Line<'a>],
     closing: Option<&'p Line<'a>>,
 }
@@ -94,8 +94,8 @@ impl<'p, 'a> Opened<'p, 'a> {
 /// Adds the name of an object whose block is closed to those of its kind, unless it is at fault.
 fn add_name(
     directory: &mut Directory,
-    kind: Kind,
-    name: Name,
+    kind: BlockKind,
+    name: ObjectName,
     closing: &Line<'_>,
 ) -> Result<(), ObjectsErr>
     ensures fault { Checks result
@@ -109,7 +109,7 @@ fn add_name(
 }
 
 /// The first fault of the lines in a block.
-fn lines_fault(opening: u64, kind: Option<Kind>, lines: &[Line<'_>]) -> Option<Fault>
+fn lines_fault(opening: u64, kind: Option<BlockKind>, lines: &[Line<'_>]) -> Option<FaultyLine>
     ensures { result ≡ first_of (inner_fault opening kind) lines.now }
 {
     for line in lines {
@@ -121,11 +121,11 @@ fn lines_fault(opening: u64, kind: Option<Kind>, lines: &[Line<'_>]) -> Option<F
 }
 
 /// The fault of a line in a block that the line `opening` opens.
-fn inner_fault(opening: u64, kind: Option<Kind>, line: &Line<'_>) -> Option<Fault>
+fn inner_fault(opening: u64, kind: Option<BlockKind>, line: &Line<'_>) -> Option<FaultyLine>
     ensures { result ≡ inner_fault opening kind line.now }
 {
     if line.opened_word().is_some() {
-        return Some(Fault {
+        return Some(FaultyLine {
             line: opening,
             what: ObjectsWhat::Unclosed,
         });
@@ -134,7 +134,7 @@ fn inner_fault(opening: u64, kind: Option<Kind>, line: &Line<'_>) -> Option<Faul
 }
 
 /// The fault of a directive in a block of a kind.
-fn directive_fault(kind: Kind, line: &Line<'_>) -> Option<Fault>
+fn directive_fault(kind: BlockKind, line: &Line<'_>) -> Option<FaultyLine>
     ensures { result ≡ directive_fault kind line.now }
 {
     let what = if is_template(line) {
@@ -144,14 +144,14 @@ fn directive_fault(kind: Kind, line: &Line<'_>) -> Option<Fault>
     } else {
         return None;
     };
-    Some(Fault {
+    Some(FaultyLine {
         line: line.number(),
         what,
     })
 }
 
 /// What is wrong with an object's name, after the earlier ones of its kind.
-fn name_fault(kind: Kind, earlier: &NameIndex, name: &Name) -> Option<ObjectsWhat>
+fn name_fault(kind: BlockKind, earlier: &NameIndex, name: &ObjectName) -> Option<ObjectsWhat>
     ensures value { (line : ℕ) → option_map (λ what. record { line = line; what = what }) result
         ≡ name_fault kind earlier.now name.now line }
     ensures absent { result ≡ None → place_of earlier.now name.now ≡ None }
@@ -171,14 +171,14 @@ fn name_fault(kind: Kind, earlier: &NameIndex, name: &Name) -> Option<ObjectsWha
 }
 
 /// Whether a part of an object's name is absent or empty.
-fn lacks_name(kind: Kind, name: &Name) -> bool
+fn lacks_name(kind: BlockKind, name: &ObjectName) -> bool
     ensures { result ≡ lacks_name kind name.now }
 {
     name.first().is_empty() || (kind.second_directive().is_some() && name.second().is_empty())
 }
 
 /// Whether a name of a kind whose names are without `;` has one.
-fn is_bad_name(kind: Kind, name: &Name) -> bool
+fn is_bad_name(kind: BlockKind, name: &ObjectName) -> bool
     ensures { result ≡ is_bad_name kind name.now }
 {
     kind.has_numbers() && (has_separator(name.first()) || has_separator(name.second()))

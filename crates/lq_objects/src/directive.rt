@@ -6,7 +6,7 @@ ghost use Rattle.lq_objects.specs.Faults.{is_bad, is_bad_number, is_template, nu
 ghost use Rattle.lq_objects.specs.Needed.{directive_word};
 ghost use Rattle.lq_objects.specs.Objects.{is_variable};
 
-use crate::kind::Kind;
+use crate::kind::BlockKind;
 use crate::known::Directive;
 use crate::line::Line;
 use lq_text::{read_u64, trim};
@@ -55,7 +55,7 @@ fn is_bad(least: u32, most: u32, number: Directive, line: &Line<'_>) -> bool
 }
 
 /// Whether a line in a block of a kind has a number that isn't in its range.
-pub(crate) fn is_bad_number(kind: Kind, line: &Line<'_>) -> bool
+pub(crate) fn is_bad_number(kind: BlockKind, line: &Line<'_>) -> bool
     ensures { result ≡ is_bad_number kind line.now.text }
 {
     kind.has_numbers()

@@ -2,8 +2,8 @@ ghost use Rattle.std.specs.Prelude.{◌≡◌, ◌<◌, ◌+◌, ◌^◌, None, 
 ghost use Rattle.lq_objects.specs.Directories.{empty, names_in, with_name};
 ghost use Rattle.lq_names.specs.Names.{place_of};
 
-use crate::kind::Kind;
-use lq_names::{Name, NameIndex};
+use crate::kind::BlockKind;
+use lq_names::{NameIndex, ObjectName};
 use std::alloc::{AllocError, Global};
 
 /// The names of the objects so far, those of each kind in order.
@@ -37,36 +37,36 @@ impl Directory {
     }
 
     /// The names of a kind.
-    pub(crate) fn of(&self, kind: Kind) -> &NameIndex
+    pub(crate) fn of(&self, kind: BlockKind) -> &NameIndex
         ensures { result.now ≡ names_in self.now kind }
     {
         match kind {
-            Kind::Host => &self.hosts,
-            Kind::Service => &self.services,
-            Kind::HostGroup => &self.host_groups,
-            Kind::ServiceGroup => &self.service_groups,
-            Kind::Contact => &self.contacts,
-            Kind::ContactGroup => &self.contact_groups,
-            Kind::Period => &self.periods,
-            Kind::Command => &self.commands,
+            BlockKind::Host => &self.hosts,
+            BlockKind::Service => &self.services,
+            BlockKind::HostGroup => &self.host_groups,
+            BlockKind::ServiceGroup => &self.service_groups,
+            BlockKind::Contact => &self.contacts,
+            BlockKind::ContactGroup => &self.contact_groups,
+            BlockKind::Period => &self.periods,
+            BlockKind::Command => &self.commands,
         }
     }
 
     /// Adds a name that isn't there at the end of its kind.
-    pub(crate) fn push(&mut self, kind: Kind, name: Name) -> Result<(), AllocError>
+    pub(crate) fn push(&mut self, kind: BlockKind, name: ObjectName) -> Result<(), AllocError>
         requires new { place_of (names_in self.old kind) name ≡ None }
         requires few { length (names_in self.old kind) + 1 < 2 ^ 32 }
         ensures { OnOk result (self.new ≡ with_name self.old kind name) }
     {
         match kind {
-            Kind::Host => self.hosts.push(name),
-            Kind::Service => self.services.push(name),
-            Kind::HostGroup => self.host_groups.push(name),
-            Kind::ServiceGroup => self.service_groups.push(name),
-            Kind::Contact => self.contacts.push(name),
-            Kind::ContactGroup => self.contact_groups.push(name),
-            Kind::Period => self.periods.push(name),
-            Kind::Command => self.commands.push(name),
+            BlockKind::Host => self.hosts.push(name),
+            BlockKind::Service => self.services.push(name),
+            BlockKind::HostGroup => self.host_groups.push(name),
+            BlockKind::ServiceGroup => self.service_groups.push(name),
+            BlockKind::Contact => self.contacts.push(name),
+            BlockKind::ContactGroup => self.contact_groups.push(name),
+            BlockKind::Period => self.periods.push(name),
+            BlockKind::Command => self.commands.push(name),
         }
     }
 }

@@ -1,10 +1,10 @@
 ghost use Rattle.std.specs.Prelude.{◌≡◌, List, [], IfOk, map};
-ghost use Rattle.lq_names.specs.Names.{Name, both_parts};
+ghost use Rattle.lq_names.specs.Names.{ObjectName, both_parts};
 ghost use Rattle.lq_objects.specs.Directories.{AreNamesOf};
 ghost use Rattle.lq_objects.specs.Objects.{objects_of};
 
 use crate::directory::Directory;
-use crate::kind::Kind;
+use crate::kind::BlockKind;
 use lq_names::NameIndex;
 use lq_records::{
     Base, Command, Contact, ContactGroup, Host, HostGroup, Items, MonitoredItems, NamedItems,
@@ -31,7 +31,7 @@ impl Draft {
 
     /// No objects. It takes no memory.
     pub(crate) fn new(rules: Rules) -> Self
-        ensures { (names : Kind → List Name) → base_of_draft result ≡ objects_of names rules [] }
+        ensures { (names : BlockKind → List ObjectName) → base_of_draft result ≡ objects_of names rules [] }
     {
         Draft {
             rules,
@@ -40,18 +40,18 @@ impl Draft {
     }
 
     /// How many objects of a kind there are so far, which is the place of the next one.
-    pub(crate) fn count(&self, kind: Kind) -> usize
+    pub(crate) fn count(&self, kind: BlockKind) -> usize
         ensures { result ≡ count_of_kind (base_of_draft self.now) kind }
     {
         match kind {
-            Kind::Host => self.hosts.len(),
-            Kind::Service => self.services.len(),
-            Kind::HostGroup => self.host_groups.len(),
-            Kind::ServiceGroup => self.service_groups.len(),
-            Kind::Contact => self.contacts.len(),
-            Kind::ContactGroup => self.contact_groups.len(),
-            Kind::Period => self.periods.len(),
-            Kind::Command => self.commands.len(),
+            BlockKind::Host => self.hosts.len(),
+            BlockKind::Service => self.services.len(),
+            BlockKind::HostGroup => self.host_groups.len(),
+            BlockKind::ServiceGroup => self.service_groups.len(),
+            BlockKind::Contact => self.contacts.len(),
+            BlockKind::ContactGroup => self.contact_groups.len(),
+            BlockKind::Period => self.periods.len(),
+            BlockKind::Command => self.commands.len(),
         }
     }
 

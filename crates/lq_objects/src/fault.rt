@@ -7,7 +7,7 @@ use std::fmt::{self, Display, Formatter, Write};
 use thiserror::Error;
 
 /// What is wrong in a line of the object file.
-#[derive(Clone, Copy, Debug, PartialEq, Eq)]
+#[derive(Clone, Copy, Debug)]
 pub enum ObjectsWhat {
     /// A line outside a block that opens none.
     Stray,
@@ -59,6 +59,7 @@ impl Display for ObjectsWhat {
     }
 }
 
+// No clause speaks of the derived `Display`: the program prints the words of `ObjectsWhat::text`.
 /// Why an object file gives no base.
 #[derive(Debug, Drop, Error)]
 pub enum ObjectsErr {
@@ -72,13 +73,13 @@ pub enum ObjectsErr {
 
 /// The first fault of an object file, as contracts speak of it: the number of its line, from 1, and
 /// what is wrong there.
-#[derive(Clone, Copy, PartialEq, Eq)]
-pub struct Fault {
+#[derive(Clone, Copy)]
+pub struct FaultyLine {
     pub line: u64,
     pub what: ObjectsWhat,
 }
 
-impl Fault {
+impl FaultyLine {
     pub(crate) fn error(self) -> ObjectsErr
         ensures { result ≡ At self.line self.what }
     {

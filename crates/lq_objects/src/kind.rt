@@ -17,8 +17,8 @@ const MOST_SERVICES: usize = 60_000;
 const MOST_GROUPS: usize = 1_000;
 
 /// A kind of object that a block may be about.
-#[derive(Clone, Copy, PartialEq, Eq)]
-pub(crate) enum Kind {
+#[derive(Clone, Copy)]
+pub(crate) enum BlockKind {
     Host,
     Service,
     HostGroup,
@@ -29,27 +29,27 @@ pub(crate) enum Kind {
     Command,
 }
 
-impl Kind {
+impl BlockKind {
     /// The kind that the word after `define` names.
     pub(crate) fn of_word(word: &[u8]) -> Option<Self>
         ensures { result ≡ kind_named word.now }
     {
         if word == b"host".as_slice() {
-            Some(Kind::Host)
+            Some(BlockKind::Host)
         } else if word == b"service".as_slice() {
-            Some(Kind::Service)
+            Some(BlockKind::Service)
         } else if word == b"hostgroup".as_slice() {
-            Some(Kind::HostGroup)
+            Some(BlockKind::HostGroup)
         } else if word == b"servicegroup".as_slice() {
-            Some(Kind::ServiceGroup)
+            Some(BlockKind::ServiceGroup)
         } else if word == b"contact".as_slice() {
-            Some(Kind::Contact)
+            Some(BlockKind::Contact)
         } else if word == b"contactgroup".as_slice() {
-            Some(Kind::ContactGroup)
+            Some(BlockKind::ContactGroup)
         } else if word == b"timeperiod".as_slice() {
-            Some(Kind::Period)
+            Some(BlockKind::Period)
         } else if word == b"command".as_slice() {
-            Some(Kind::Command)
+            Some(BlockKind::Command)
         } else {
             None
         }
@@ -61,9 +61,12 @@ impl Kind {
         ensures small { result < 2 ^ 31 }
     {
         match self {
-            Kind::Host | Kind::Contact | Kind::Command => MOST_OBJECTS,
-            Kind::Service => MOST_SERVICES,
-            Kind::HostGroup | Kind::ServiceGroup | Kind::ContactGroup | Kind::Period => MOST_GROUPS,
+            BlockKind::Host | BlockKind::Contact | BlockKind::Command => MOST_OBJECTS,
+            BlockKind::Service => MOST_SERVICES,
+            BlockKind::HostGroup
+            | BlockKind::ServiceGroup
+            | BlockKind::ContactGroup
+            | BlockKind::Period => MOST_GROUPS,
         }
     }
 
@@ -72,13 +75,13 @@ impl Kind {
         ensures { result ≡ has_numbers self }
     {
         match self {
-            Kind::Host | Kind::Service => true,
-            Kind::HostGroup
-            | Kind::ServiceGroup
-            | Kind::Contact
-            | Kind::ContactGroup
-            | Kind::Period
-            | Kind::Command => false,
+            BlockKind::Host | BlockKind::Service => true,
+            BlockKind::HostGroup
+            | BlockKind::ServiceGroup
+            | BlockKind::Contact
+            | BlockKind::ContactGroup
+            | BlockKind::Period
+            | BlockKind::Command => false,
         }
     }
 
@@ -87,13 +90,13 @@ impl Kind {
         ensures { directive_word result ≡ name_directive self }
     {
         match self {
-            Kind::Host | Kind::Service => Directive::HostName,
-            Kind::HostGroup => Directive::HostGroupName,
-            Kind::ServiceGroup => Directive::ServiceGroupName,
-            Kind::Contact => Directive::ContactName,
-            Kind::ContactGroup => Directive::ContactGroupName,
-            Kind::Period => Directive::TimePeriodName,
-            Kind::Command => Directive::CommandName,
+            BlockKind::Host | BlockKind::Service => Directive::HostName,
+            BlockKind::HostGroup => Directive::HostGroupName,
+            BlockKind::ServiceGroup => Directive::ServiceGroupName,
+            BlockKind::Contact => Directive::ContactName,
+            BlockKind::ContactGroup => Directive::ContactGroupName,
+            BlockKind::Period => Directive::TimePeriodName,
+            BlockKind::Command => Directive::CommandName,
         }
     }
 
@@ -102,14 +105,14 @@ impl Kind {
         ensures { option_map directive_word result ≡ second_directive self }
     {
         match self {
-            Kind::Service => Some(Directive::ServiceDescription),
-            Kind::Host
-            | Kind::HostGroup
-            | Kind::ServiceGroup
-            | Kind::Contact
-            | Kind::ContactGroup
-            | Kind::Period
-            | Kind::Command => None,
+            BlockKind::Service => Some(Directive::ServiceDescription),
+            BlockKind::Host
+            | BlockKind::HostGroup
+            | BlockKind::ServiceGroup
+            | BlockKind::Contact
+            | BlockKind::ContactGroup
+            | BlockKind::Period
+            | BlockKind::Command => None,
         }
     }
 
@@ -118,12 +121,12 @@ impl Kind {
         ensures { result.now ≡ references self }
     {
         match self {
-            Kind::Host => HOST_REFERENCES.as_slice(),
-            Kind::Service => SERVICE_REFERENCES.as_slice(),
-            Kind::HostGroup => HOST_GROUP_REFERENCES.as_slice(),
-            Kind::ServiceGroup => SERVICE_GROUP_REFERENCES.as_slice(),
-            Kind::ContactGroup => CONTACT_GROUP_REFERENCES.as_slice(),
-            Kind::Contact | Kind::Period | Kind::Command => NO_REFERENCES.as_slice(),
+            BlockKind::Host => HOST_REFERENCES.as_slice(),
+            BlockKind::Service => SERVICE_REFERENCES.as_slice(),
+            BlockKind::HostGroup => HOST_GROUP_REFERENCES.as_slice(),
+            BlockKind::ServiceGroup => SERVICE_GROUP_REFERENCES.as_slice(),
+            BlockKind::ContactGroup => CONTACT_GROUP_REFERENCES.as_slice(),
+            BlockKind::Contact | BlockKind::Period | BlockKind::Command => NO_REFERENCES.as_slice(),
         }
     }
 }
@@ -149,7 +152,7 @@ const CONTACT_GROUP_REFERENCES: [Reference; 1] = [Reference::MemberContacts];
 const NO_REFERENCES: [Reference; 0] = [];
 
 /// A directive that names other objects.
-#[derive(Clone, Copy, PartialEq, Eq)]
+#[derive(Clone, Copy)]
 pub(crate) enum Reference {
     /// A host's parents.
     Parents,
@@ -184,14 +187,14 @@ impl Reference {
     }
 
     /// The kind of the objects that it names.
-    pub(crate) fn target(self) -> Kind
+    pub(crate) fn target(self) -> BlockKind
         ensures { result ≡ target self }
     {
         match self {
-            Reference::Parents | Reference::ServiceHost | Reference::MemberHosts => Kind::Host,
-            Reference::MemberServices => Kind::Service,
-            Reference::Contacts | Reference::MemberContacts => Kind::Contact,
-            Reference::ContactGroups => Kind::ContactGroup,
+            Reference::Parents | Reference::ServiceHost | Reference::MemberHosts => BlockKind::Host,
+            Reference::MemberServices => BlockKind::Service,
+            Reference::Contacts | Reference::MemberContacts => BlockKind::Contact,
+            Reference::ContactGroups => BlockKind::ContactGroup,
         }
     }
 }

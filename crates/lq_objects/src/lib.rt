@@ -20,5 +20,5 @@ mod texts;
 mod unknown;
 mod variables;
 
-pub use fault::{Fault, ObjectsErr, ObjectsWhat};
+pub use fault::{FaultyLine, ObjectsErr, ObjectsWhat};
 pub use read::read_objects;

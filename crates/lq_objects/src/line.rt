@@ -24,6 +24,8 @@ const BYTES_A_LINE: usize = 48;
 
 /// A line that says something: its number in the file, from 1, and its text without the blanks at
 /// both ends.
+// 32 bytes. With a number of 32 bits it would take 24, and set a limit that no file of the program
+// meets. The value isn't kept: only that of a line that decides is looked for.
 #[derive(Drop)]
 pub(crate) struct Line<'a> {
     number: u64,

@@ -3,11 +3,11 @@ ghost use Rattle.lq_objects.specs.Names.{name_of, text_or};
 ghost use Rattle.lq_objects.specs.Needed.{directive_word};
 
 use crate::directive::directive;
-use crate::kind::Kind;
+use crate::kind::BlockKind;
 use crate::known::Directive;
 use crate::line::Line;
 use crate::texts::Texts;
-use lq_names::Name;
+use lq_names::ObjectName;
 use lq_records::Text;
 use std::alloc::AllocError;
 
@@ -42,7 +42,11 @@ pub(crate) fn text_of(
 }
 
 /// The name that a block's directives give its object, an absent one being empty.
-pub(crate) fn name_of(texts: &Texts, kind: Kind, lines: &[Line<'_>]) -> Result<Name, AllocError>
+pub(crate) fn name_of(
+    texts: &Texts,
+    kind: BlockKind,
+    lines: &[Line<'_>],
+) -> Result<ObjectName, AllocError>
     ensures { IfOk result (λ name. name ≡ name_of kind lines.now) }
 {
     let first = text_of(texts, kind.name_directive(), lines)?;
@@ -50,5 +54,5 @@ pub(crate) fn name_of(texts: &Texts, kind: Kind, lines: &[Line<'_>]) -> Result<N
         Some(second) => text_of(texts, second, lines)?,
         None => Text::empty(),
     };
-    Ok(Name::new(first, second))
+    Ok(ObjectName::new(first, second))
 }

@@ -8,7 +8,7 @@ ghost use Rattle.lq_objects.specs.Views.{lent_texts};
 
 use crate::kind::Reference;
 use crate::texts::Texts;
-use lq_names::{Name, NameIndex};
+use lq_names::{NameIndex, ObjectName};
 use lq_text::trim;
 use std::alloc::{AllocError, Global};
 
@@ -17,7 +17,7 @@ pub(crate) fn named_in(
     texts: &Texts,
     reference: Reference,
     value: &[u8],
-) -> Result<Option<Vec<Name>>, AllocError>
+) -> Result<Option<Vec<ObjectName>>, AllocError>
     ensures { IfOk result
         (λ names. option_map (λ list. list.items) names ≡ named_in reference value.now) }
 {
@@ -45,28 +45,28 @@ fn pieces(alloc: Global, value: &[u8]) -> Result<Vec<&[u8]>, AllocError>
 }
 
 /// A value that is one name.
-fn whole(texts: &Texts, value: &[u8]) -> Result<Vec<Name>, AllocError>
+fn whole(texts: &Texts, value: &[u8]) -> Result<Vec<ObjectName>, AllocError>
     ensures { IfOk result (λ names. names.items ≡ single (text_of_bytes value.now) ∷ []) }
 {
     let mut names = Vec::new(texts.alloc());
-    names.push(Name::single(texts.text(value)?))?;
+    names.push(ObjectName::single(texts.text(value)?))?;
     Ok(names)
 }
 
 /// Names of one part.
-fn singles(texts: &Texts, pieces: &[&[u8]]) -> Result<Vec<Name>, AllocError>
+fn singles(texts: &Texts, pieces: &[&[u8]]) -> Result<Vec<ObjectName>, AllocError>
     ensures { IfOk result (λ names. names.items ≡ map single
         (map text_of_bytes (lent_texts pieces.now))) }
 {
     let mut names = Vec::new(texts.alloc());
     for piece in pieces {
-        names.push(Name::single(texts.text(piece)?))?;
+        names.push(ObjectName::single(texts.text(piece)?))?;
     }
     Ok(names)
 }
 
 /// Names of two parts. None where the last one lacks its second.
-fn pairs(texts: &Texts, pieces: &[&[u8]]) -> Result<Option<Vec<Name>>, AllocError>
+fn pairs(texts: &Texts, pieces: &[&[u8]]) -> Result<Option<Vec<ObjectName>>, AllocError>
     ensures { IfOk result
         (λ names. option_map (λ list. list.items) names
         ≡ names_in_pairs (map text_of_bytes (lent_texts pieces.now))) }
@@ -76,7 +76,7 @@ fn pairs(texts: &Texts, pieces: &[&[u8]]) -> Result<Option<Vec<Name>>, AllocErro
     'pairs: while at + 1 < pieces.len() {
         let first = texts.text(pieces[at])?;
         let second = texts.text(pieces[at + 1])?;
-        names.push(Name::new(first, second))?;
+        names.push(ObjectName::new(first, second))?;
         at += 2;
     }
     if at < pieces.len() {
@@ -87,7 +87,7 @@ fn pairs(texts: &Texts, pieces: &[&[u8]]) -> Result<Option<Vec<Name>>, AllocErro
 }
 
 /// Whether one of the names isn't there.
-pub(crate) fn lacks_any(index: &NameIndex, names: &[Name]) -> bool
+pub(crate) fn lacks_any(index: &NameIndex, names: &[ObjectName]) -> bool
     ensures { result ≡ list_any (λ name. is_none (place_of index.now name)) names.now }
 {
     names.iter().any(|name| index.find(name).is_none())

@@ -1,5 +1,5 @@
 ghost use Rattle.std.specs.Prelude.{◌≡◌, ◌≤◌, List, [], IfOk, OnOk, is_some, map};
-ghost use Rattle.lq_names.specs.Names.{Name};
+ghost use Rattle.lq_names.specs.Names.{ObjectName};
 ghost use Rattle.lq_objects.specs.Checks.{Checks, MakesUnless, Tells, TellsUnknown};
 ghost use Rattle.lq_objects.specs.Directories.{directory_of, names_in};
 ghost use Rattle.lq_objects.specs.Drafts.{base_of_draft, numbers_of, own_name_of};
@@ -18,7 +18,7 @@ use crate::directive::{MOST_ATTEMPTS, directive, number_between};
 use crate::directory::Directory;
 use crate::draft::Draft;
 use crate::fault::{ObjectErr, ObjectsErr};
-use crate::kind::{Kind, Reference};
+use crate::kind::{BlockKind, Reference};
 use crate::known::Directive;
 use crate::line::Line;
 use crate::name::{text_of, text_or};
@@ -109,7 +109,7 @@ struct Reader<'r, 'a> {
 
 impl<'r, 'a> Reader<'r, 'a> {
     /// Adds the block's own object at the end of its kind.
-    fn add_to(&self, draft: &mut Draft, kind: Kind) -> Result<(), ObjectErr>
+    fn add_to(&self, draft: &mut Draft, kind: BlockKind) -> Result<(), ObjectErr>
         requires { self.now.own_name.now ≡ own_name_of kind self.now.lines.now }
         ensures object { OnOk result (base_of_draft draft.new ≡ with_object
             (names_in self.now.directory.now) (base_of_draft draft.old) kind self.now.lines.now) }
@@ -118,24 +118,24 @@ impl<'r, 'a> Reader<'r, 'a> {
     {
         let alloc = self.texts.alloc();
         match kind {
-            Kind::Host => draft.hosts.push(alloc, self.host()?)?,
-            Kind::Service => draft.services.push(alloc, self.service()?)?,
-            Kind::HostGroup => draft.host_groups.push(alloc, self.host_group()?)?,
-            Kind::ServiceGroup => draft.service_groups.push(alloc, self.service_group()?)?,
-            Kind::Contact => draft.contacts.push(alloc, self.contact()?)?,
-            Kind::ContactGroup => draft.contact_groups.push(alloc, self.contact_group()?)?,
-            Kind::Period => draft.periods.push(alloc, self.period()?)?,
-            Kind::Command => draft.commands.push(alloc, self.command()?)?,
+            BlockKind::Host => draft.hosts.push(alloc, self.host()?)?,
+            BlockKind::Service => draft.services.push(alloc, self.service()?)?,
+            BlockKind::HostGroup => draft.host_groups.push(alloc, self.host_group()?)?,
+            BlockKind::ServiceGroup => draft.service_groups.push(alloc, self.service_group()?)?,
+            BlockKind::Contact => draft.contacts.push(alloc, self.contact()?)?,
+            BlockKind::ContactGroup => draft.contact_groups.push(alloc, self.contact_group()?)?,
+            BlockKind::Period => draft.periods.push(alloc, self.period()?)?,
+            BlockKind::Command => draft.commands.push(alloc, self.command()?)?,
         }
         Ok(())
     }
 
     fn host(&self) -> Result<Host, ObjectErr>
-        requires { self.now.own_name.now ≡ own_name_of Kind.Host self.now.lines.now }
+        requires { self.now.own_name.now ≡ own_name_of BlockKind.Host self.now.lines.now }
         ensures host { IfOk result
             (λ host. host ≡ host_of (names_in self.now.directory.now) self.now.lines.now) }
         ensures unknown { MakesUnless result (lacks_any_named
-            (names_in self.now.directory.now) self.now.lines.now (references Kind.Host)) }
+            (names_in self.now.directory.now) self.now.lines.now (references BlockKind.Host)) }
     {
         let host_name = self.own_name.0.clone()?;
         Ok(Host {
@@ -148,11 +148,11 @@ impl<'r, 'a> Reader<'r, 'a> {
     }
 
     fn service(&self) -> Result<Service, ObjectErr>
-        requires { self.now.own_name.now ≡ own_name_of Kind.Service self.now.lines.now }
+        requires { self.now.own_name.now ≡ own_name_of BlockKind.Service self.now.lines.now }
         ensures service { IfOk result (λ service. service
             ≡ service_of (names_in self.now.directory.now) self.now.lines.now) }
         ensures unknown { MakesUnless result (lacks_any_named
-            (names_in self.now.directory.now) self.now.lines.now (references Kind.Service)) }
+            (names_in self.now.directory.now) self.now.lines.now (references BlockKind.Service)) }
     {
         let service_description = self.own_name.1.clone()?;
         Ok(Service {
@@ -236,11 +236,11 @@ impl<'r, 'a> Reader<'r, 'a> {
     }
 
     fn host_group(&self) -> Result<HostGroup, ObjectErr>
-        requires { self.now.own_name.now ≡ own_name_of Kind.HostGroup self.now.lines.now }
+        requires { self.now.own_name.now ≡ own_name_of BlockKind.HostGroup self.now.lines.now }
         ensures group { IfOk result (λ group. group
             ≡ host_group_of (names_in self.now.directory.now) self.now.lines.now) }
         ensures unknown { MakesUnless result (lacks_any_named
-            (names_in self.now.directory.now) self.now.lines.now (references Kind.HostGroup)) }
+            (names_in self.now.directory.now) self.now.lines.now (references BlockKind.HostGroup)) }
     {
         let hostgroup_name = self.own_name.0.clone()?;
         Ok(HostGroup {
@@ -254,11 +254,11 @@ impl<'r, 'a> Reader<'r, 'a> {
     }
 
     fn service_group(&self) -> Result<ServiceGroup, ObjectErr>
-        requires { self.now.own_name.now ≡ own_name_of Kind.ServiceGroup self.now.lines.now }
+        requires { self.now.own_name.now ≡ own_name_of BlockKind.ServiceGroup self.now.lines.now }
         ensures group { IfOk result (λ group. group
             ≡ service_group_of (names_in self.now.directory.now) self.now.lines.now) }
         ensures unknown { MakesUnless result (lacks_any_named
-            (names_in self.now.directory.now) self.now.lines.now (references Kind.ServiceGroup)) }
+            (names_in self.now.directory.now) self.now.lines.now (references BlockKind.ServiceGroup)) }
     {
         let servicegroup_name = self.own_name.0.clone()?;
         Ok(ServiceGroup {
@@ -272,7 +272,7 @@ impl<'r, 'a> Reader<'r, 'a> {
     }
 
     fn contact(&self) -> Result<Contact, AllocError>
-        requires { self.now.own_name.now ≡ own_name_of Kind.Contact self.now.lines.now }
+        requires { self.now.own_name.now ≡ own_name_of BlockKind.Contact self.now.lines.now }
         ensures { IfOk result (λ contact. contact ≡ contact_of self.now.lines.now) }
     {
         let contact_name = self.own_name.0.clone()?;
@@ -287,11 +287,11 @@ impl<'r, 'a> Reader<'r, 'a> {
     }
 
     fn contact_group(&self) -> Result<ContactGroup, ObjectErr>
-        requires { self.now.own_name.now ≡ own_name_of Kind.ContactGroup self.now.lines.now }
+        requires { self.now.own_name.now ≡ own_name_of BlockKind.ContactGroup self.now.lines.now }
         ensures group { IfOk result (λ group. group
             ≡ contact_group_of (names_in self.now.directory.now) self.now.lines.now) }
         ensures unknown { MakesUnless result (lacks_any_named
-            (names_in self.now.directory.now) self.now.lines.now (references Kind.ContactGroup)) }
+            (names_in self.now.directory.now) self.now.lines.now (references BlockKind.ContactGroup)) }
     {
         let contactgroup_name = self.own_name.0.clone()?;
         Ok(ContactGroup {
@@ -302,7 +302,7 @@ impl<'r, 'a> Reader<'r, 'a> {
     }
 
     fn period(&self) -> Result<Period, AllocError>
-        requires { self.now.own_name.now ≡ own_name_of Kind.Period self.now.lines.now }
+        requires { self.now.own_name.now ≡ own_name_of BlockKind.Period self.now.lines.now }
         ensures { IfOk result (λ period. period ≡ period_of self.now.lines.now) }
     {
         let timeperiod_name = self.own_name.0.clone()?;
@@ -313,7 +313,7 @@ impl<'r, 'a> Reader<'r, 'a> {
     }
 
     fn command(&self) -> Result<Command, AllocError>
-        requires { self.now.own_name.now ≡ own_name_of Kind.Command self.now.lines.now }
+        requires { self.now.own_name.now ≡ own_name_of BlockKind.Command self.now.lines.now }
         ensures { IfOk result (λ command. command ≡ command_of self.now.lines.now) }
     {
         Ok(Command {

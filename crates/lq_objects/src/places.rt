@@ -12,13 +12,13 @@ ghost use Rattle.lq_objects.specs.Objects.{distinct, host_place, places};
 use crate::directive::directive;
 use crate::directory::Directory;
 use crate::fault::ObjectErr;
-use crate::kind::{Kind, Reference};
+use crate::kind::{BlockKind, Reference};
 use crate::known::Directive;
 use crate::line::Line;
 use crate::names::{lacks_any, named_in};
 use crate::texts::Texts;
 use indexmap::IndexSet;
-use lq_names::{Name, NameIndex};
+use lq_names::{NameIndex, ObjectName};
 use lq_records::{HostId, Id, Items, Text};
 use std::alloc::{AllocError, Global};
 
@@ -51,7 +51,11 @@ pub(crate) fn ids<T: Id>(
 }
 
 /// The objects that have names, in order and without repeats.
-fn ids_of<T: Id>(alloc: Global, index: &NameIndex, names: &[Name]) -> Result<Items<T>, AllocError>
+fn ids_of<T: Id>(
+    alloc: Global,
+    index: &NameIndex,
+    names: &[ObjectName],
+) -> Result<Items<T>, AllocError>
     ensures { IfOk result
         (λ ids. ids ≡ map T.id_at (distinct (filter_map (place_of index.now) names.now))) }
 {
@@ -66,7 +70,11 @@ fn ids_of<T: Id>(alloc: Global, index: &NameIndex, names: &[Name]) -> Result<Ite
 }
 
 /// The same as `places_of`, where an index of the places would cost more than going over them.
-fn few_places(alloc: Global, index: &NameIndex, names: &[Name]) -> Result<Vec<u32>, AllocError>
+fn few_places(
+    alloc: Global,
+    index: &NameIndex,
+    names: &[ObjectName],
+) -> Result<Vec<u32>, AllocError>
     ensures { IfOk result
         (λ found. found.items ≡ distinct (filter_map (place_of index.now) names.now)) }
 {
@@ -91,7 +99,11 @@ fn push_new(places: &mut Vec<u32>, place: u32) -> Result<(), AllocError>
 }
 
 /// The places of names that are there, in order and without repeats.
-fn places_of(alloc: Global, index: &NameIndex, names: &[Name]) -> Result<IndexSet<u32>, AllocError>
+fn places_of(
+    alloc: Global,
+    index: &NameIndex,
+    names: &[ObjectName],
+) -> Result<IndexSet<u32>, AllocError>
     ensures { IfOk result
         (λ found. found.keys ≡ distinct (filter_map (place_of index.now) names.now)) }
 {
@@ -122,8 +134,8 @@ pub(crate) fn host_place(
     let Some(_said) = directive(Directive::HostName, lines) else {
         return Ok(HostId(0));
     };
-    let name = Name::single(host_name.clone()?);
-    match directory.of(Kind::Host).find(&name) {
+    let name = ObjectName::single(host_name.clone()?);
+    match directory.of(BlockKind::Host).find(&name) {
         Some(place) => Ok(HostId(place)),
         None => Err(ObjectErr::UnknownName),
     }

@@ -10,8 +10,8 @@ ghost use Rattle.lq_objects.specs.Needed.{directive_word};
 use crate::block::Block;
 use crate::directive::value_of;
 use crate::directory::Directory;
-use crate::fault::{Fault, ObjectsErr, ObjectsWhat};
-use crate::kind::{Kind, Reference};
+use crate::fault::{FaultyLine, ObjectsErr, ObjectsWhat};
+use crate::kind::{BlockKind, Reference};
 use crate::known::Directive;
 use crate::line::Line;
 use crate::names::{lacks_any, named_in};
@@ -45,7 +45,7 @@ struct Finder<'d> {
 
 impl<'d> Finder<'d> {
     /// The first line of a block that names what isn't there.
-    fn unknown_in_block(&self, block: &Block<'_, '_>) -> Result<Option<Fault>, AllocError>
+    fn unknown_in_block(&self, block: &Block<'_, '_>) -> Result<Option<FaultyLine>, AllocError>
         ensures { IfOk result
             (λ fault. fault ≡ unknown_in_block (names_in self.now.directory.now) block.now) }
     {
@@ -53,14 +53,18 @@ impl<'d> Finder<'d> {
     }
 
     /// The same, by the block's kind and lines.
-    fn unknown_in(&self, kind: Kind, lines: &[Line<'_>]) -> Result<Option<Fault>, AllocError>
+    fn unknown_in(
+        &self,
+        kind: BlockKind,
+        lines: &[Line<'_>],
+    ) -> Result<Option<FaultyLine>, AllocError>
         ensures { IfOk result
             (λ fault. fault ≡ unknown_in (names_in self.now.directory.now) kind lines.now) }
     {
         for i in 0..lines.len() {
             let line = &lines[i];
             if self.any_unknown(line, after(lines, i + 1), kind.references())? {
-                return Ok(Some(Fault {
+                return Ok(Some(FaultyLine {
                     line: line.number(),
                     what: ObjectsWhat::UnknownName,
                 }));

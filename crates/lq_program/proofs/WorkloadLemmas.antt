@@ -5,7 +5,7 @@ use Rattle.std.specs.Option.{option_map}
 use Rattle.std.proofs.KnownBytes.{Appends-nil}
 use Rattle.lq_outside.specs.Sinks.{AppendsFront}
 use Rattle.lq_records.specs.declared.base.Base.{Base}
-use Rattle.lq_objects.specs.declared.fault.Fault.{Fault}
+use Rattle.lq_objects.specs.declared.fault.FaultyLine.{FaultyLine}
 use Rattle.lq_objects.specs.Objects.{base_of}
 use Rattle.lq_log.specs.Log.{Log, log_of}
 use Rattle.lq_log.specs.declared.whole.LogErr.{LogErr}
@@ -19,7 +19,7 @@ use Rattle.lq_session.specs.Replies.{replies}
 
 -- ---- the line is there
 
-both_open : (base : Result Base Fault) (log : Result Log LogErr) → IsOk base → IsOk log → IsSome (opened_by base log)
+both_open : (base : Result Base FaultyLine) (log : Result Log LogErr) → IsOk base → IsOk log → IsSome (opened_by base log)
 both_open (Ok base) (Ok log) first second = refl
 both_open (Ok base) (Err error) first second = absurd (cc)
 both_open (Err fault) log first second = absurd (cc)

@@ -6,7 +6,7 @@ use Rattle.lq_records.specs.declared.base.Base.{Base}
 use Rattle.lq_records.specs.declared.base.Rules.{Rules}
 use Rattle.lq_objects.specs.Objects.{base_of}
 use Rattle.lq_objects.specs.Reading.{what_text}
-use Rattle.lq_objects.specs.declared.fault.Fault.{Fault}
+use Rattle.lq_objects.specs.declared.fault.FaultyLine.{FaultyLine}
 use Rattle.lq_log.specs.Log.{Log, log_of}
 use Rattle.lq_log.specs.declared.whole.LogErr.{LogErr}
 use Rattle.lq_log.specs.declared.whole.LogErr.TheVariants as err
@@ -25,7 +25,7 @@ file_limit = 67108864
 
 -- ---- what is wrong with an object file
 
-abbrev pub fault_of_base : Result Base Fault → Option ObjectsFault
+abbrev pub fault_of_base : Result Base FaultyLine → Option ObjectsFault
 fault_of_base (Ok base) = None
 fault_of_base (Err fault) = Some (At fault.line fault.what)
 

@@ -7,7 +7,7 @@ use Rattle.std.specs.Option.{option_map}
 use Rattle.lq_records.specs.declared.base.Base.{Base}
 use Rattle.lq_records.specs.declared.base.Rules.{Rules}
 use Rattle.lq_objects.specs.Objects.{base_of}
-use Rattle.lq_objects.specs.declared.fault.Fault.{Fault}
+use Rattle.lq_objects.specs.declared.fault.FaultyLine.{FaultyLine}
 use Rattle.lq_log.specs.Log.{Log, log_of}
 use Rattle.lq_log.specs.declared.whole.LogErr.{LogErr}
 use Rattle.lq_live.specs.Opening.{opening_state}
@@ -21,7 +21,7 @@ abbrev pub default_rules : Rules
 default_rules = record { service_strict = false; group_strict = true }
 
 -- the state that objects and a log open with
-abbrev pub opened_by : Result Base Fault → Result Log LogErr → Option State
+abbrev pub opened_by : Result Base FaultyLine → Result Log LogErr → Option State
 opened_by (Ok base) (Ok log) = Some (opening_state base log.entries)
 opened_by _ _ = None
 

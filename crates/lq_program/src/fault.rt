@@ -12,7 +12,7 @@ use lq_outside::{Failed, Sink, write_all};
 pub const OBJECTS_LIMIT: u64 = 67_108_864;
 
 /// What is wrong with an object file.
-#[derive(Clone, Copy, PartialEq, Eq)]
+#[derive(Clone, Copy)]
 pub enum ObjectsFault {
     /// The number of a line, from 1, and what is wrong there.
     At { line: u64, what: ObjectsWhat },
@@ -24,7 +24,7 @@ pub enum ObjectsFault {
 pub const LOG_LIMIT: u64 = 67_108_864;
 
 /// What is wrong with a log.
-#[derive(Clone, Copy, PartialEq, Eq)]
+#[derive(Clone, Copy)]
 pub enum LogFault {
     /// The number of the first line that is too many, from 1.
     TooManyLines { line: u64 },

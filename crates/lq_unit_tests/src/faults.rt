@@ -7,7 +7,7 @@ use std::process::Abort;
 use std::test::Fail;
 
 /// A file, the line of its first fault and what is wrong there.
-type Fault<'a> = (&'a [u8], u64, &'a str);
+type FaultCase<'a> = (&'a [u8], u64, &'a str);
 
 /// The line of a file's first fault and what is wrong there, or 0 and `none`.
 fn fault_in(alloc: Global, file: &[u8]) -> (u64, &'static str) {
@@ -18,7 +18,7 @@ fn fault_in(alloc: Global, file: &[u8]) -> (u64, &'static str) {
     }
 }
 
-fn assert_fault<R: Abort + AllocGlobal>(rt: &R, (file, line, what): Fault<'_>) {
+fn assert_fault<R: Abort + AllocGlobal>(rt: &R, (file, line, what): FaultCase<'_>) {
     let found = fault_in(rt.alloc(), file);
     assert!(rt; found.0 == line && found.1 == what, "{found:?} in {file:?}");
 }
@@ -28,7 +28,7 @@ fn assert_fault<R: Abort + AllocGlobal>(rt: &R, (file, line, what): Fault<'_>) {
 fn assert_faults<R: Abort + AllocGlobal>(
     rt: &R,
     (front, lines, back): (&[u8], u64, &[u8]),
-    faults: &[Fault<'_>],
+    faults: &[FaultCase<'_>],
 ) -> Result<(), Fail> {
     for (file, line, what) in faults {
         let whole = [front, *file, back].concat(rt.alloc())?;
@@ -39,7 +39,7 @@ fn assert_faults<R: Abort + AllocGlobal>(
 
 // ---- lines and blocks
 
-const STRAY: &[Fault<'static>] = &[
+const STRAY: &[FaultCase<'static>] = &[
     (b"host_name a\n", 1, "stray line"),
     (b"}\n", 1, "stray line"),
     (b"{\n", 1, "stray line"),
@@ -67,7 +67,7 @@ const STRAY: &[Fault<'static>] = &[
     (b"define host {\nhost_name a\n}\n\r", 4, "stray line"),
 ];
 
-const UNCLOSED: &[Fault<'static>] = &[
+const UNCLOSED: &[FaultCase<'static>] = &[
     (b"define host {\nhost_name a", 1, "unclosed"),
     (b"define host {\nhost_name a\n", 1, "unclosed"),
     (b"define host {", 1, "unclosed"),
@@ -99,7 +99,7 @@ const UNCLOSED: &[Fault<'static>] = &[
 ];
 
 /// Of several faults the first line decides, and names that aren't there come after all others.
-const FIRST: &[Fault<'static>] = &[
+const FIRST: &[FaultCase<'static>] = &[
     (
         b"define host {\nuse t\nmax_check_attempts 0\n}\n",
         2,
@@ -155,9 +155,9 @@ const FIRST: &[Fault<'static>] = &[
 
 /// A kind that is read, the directives of a name, and the line where a second block with that name
 /// closes, if a host `z` stands between the two.
-type Kind<'a> = (&'a [u8], &'a [u8], u64);
+type KindCase<'a> = (&'a [u8], &'a [u8], u64);
 
-const KINDS: &[Kind<'static>] = &[
+const KINDS: &[KindCase<'static>] = &[
     (b"host", b"host_name a\n", 9),
     (b"service", b"host_name a\nservice_description b\n", 11),
     (b"hostgroup", b"hostgroup_name a\n", 9),
@@ -191,7 +191,7 @@ fn assert_parts<R: Abort + AllocGlobal>(
 /// Reads blocks of a kind: of a template, without a name, and with one name twice.
 fn assert_kind<R: Abort + AllocGlobal>(
     rt: &R,
-    (kind, name, line): Kind<'static>,
+    (kind, name, line): KindCase<'static>,
 ) -> Result<(), Fail> {
     for template in TEMPLATES {
         let parts: &[&[u8]] = &[b"define ", kind, b" {\n", *template, b"\n", name, b"}\n"];
@@ -246,7 +246,7 @@ fn numbers_outside_their_ranges_are_refused(rt: HostRuntime) -> Result<(), Fail>
     Ok(())
 }
 
-const NO_NAMES: &[Fault<'static>] = &[
+const NO_NAMES: &[FaultCase<'static>] = &[
     (b"define host {\n}\n", 2, "no name"),
     (b"define host {\nhost_name\n}\n", 3, "no name"),
     (b"define host {\nhost_name a\nhost_name\n}\n", 4, "no name"),
@@ -282,7 +282,7 @@ const NO_NAMES: &[Fault<'static>] = &[
     ),
 ];
 
-const BAD_NAMES: &[Fault<'static>] = &[
+const BAD_NAMES: &[FaultCase<'static>] = &[
     (b"define host {\nhost_name a;b\n}\n", 3, "bad name"),
     (b"define host {\nhost_name ;\n}\n", 3, "bad name"),
     (
@@ -302,7 +302,7 @@ const BAD_NAMES: &[Fault<'static>] = &[
     ),
 ];
 
-const TWICE: &[Fault<'static>] = &[
+const TWICE: &[FaultCase<'static>] = &[
     (
         b"define host {\nhost_name a\n}\ndefine host {\nhost_name a\n}\n",
         6,
@@ -315,7 +315,7 @@ const TWICE: &[Fault<'static>] = &[
     ),
 ];
 
-const REPLACED: &[Fault<'static>] = &[
+const REPLACED: &[FaultCase<'static>] = &[
     (
         b"define host {\nhost_name a\xff\n}\ndefine host {\nhost_name a\xfe\n}\n",
         6,
@@ -333,7 +333,7 @@ const REPLACED: &[Fault<'static>] = &[
     ),
 ];
 
-const IN_ORDER: &[Fault<'static>] = &[
+const IN_ORDER: &[FaultCase<'static>] = &[
     (
         b"define service {\nservice_description a;b\n}\n",
         3,
@@ -360,7 +360,7 @@ const THERE: &[u8] = b"define host {\nhost_name a\n}\ndefine contact {\ncontact_
 define contactgroup {\ncontactgroup_name g\n}
 define service {\nhost_name a\nservice_description b\n}\n";
 
-const UNKNOWN: &[Fault<'static>] = &[
+const UNKNOWN: &[FaultCase<'static>] = &[
     (
         b"define host {\nhost_name h\nparents x\n}\n",
         3,
@@ -469,7 +469,7 @@ const UNKNOWN: &[Fault<'static>] = &[
 ];
 
 /// Of several names the first line decides, and of a repeated directive the last line alone.
-const FIRST_UNKNOWN: &[Fault<'static>] = &[
+const FIRST_UNKNOWN: &[FaultCase<'static>] = &[
     (
         b"define host {\nhost_name a\ncontacts x\nparents x\n}\n",
         3,
@@ -644,7 +644,7 @@ fn each_kind_has_its_own_limit(rt: HostRuntime) -> Result<(), Fail> {
 }
 
 /// The faults of a host after as many as there may be, in their order.
-const AFTER_ALL: &[Fault<'static>] = &[
+const AFTER_ALL: &[FaultCase<'static>] = &[
     (b"define host {\nhost_name\n}\n", 3, "no name"),
     (b"define host {\nhost_name a;b\n}\n", 3, "bad name"),
     (b"define host {\nhost_name 9999\n}\n", 3, "twice"),

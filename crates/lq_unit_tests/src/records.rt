@@ -1,6 +1,6 @@
 //! Texts, lists, rules, objects and names.
 
-use lq_names::{Name, NameIndex};
+use lq_names::{NameIndex, ObjectName};
 use lq_records::{HostId, Items, Object, ObjectKind, Rules, ServiceId, Text, clean_text};
 use std::alloc::{AllocError, Global};
 use std::process::Abort;
@@ -195,8 +195,8 @@ fn objects_of_one_number_differ_by_kind(rt: HostRuntime) {
 }
 
 /// A name of two parts.
-fn named(alloc: Global, first: &str, second: &str) -> Result<Name, AllocError> {
-    Ok(Name::new(Text::new(alloc, first)?, Text::new(alloc, second)?))
+fn named(alloc: Global, first: &str, second: &str) -> Result<ObjectName, AllocError> {
+    Ok(ObjectName::new(Text::new(alloc, first)?, Text::new(alloc, second)?))
 }
 
 fn push_new(
@@ -224,7 +224,7 @@ fn assert_found<R: Abort + AllocGlobal>(rt: &R, index: &NameIndex) -> Result<(),
     assert!(rt; index.find(&named(rt.alloc(), "b", "a")?) == Some(1));
     let (first, second) = index.parts_at(1);
     assert!(rt; first.as_str() == "b" && second.as_str() == "a");
-    let single = Name::single(Text::new(rt.alloc(), "a")?);
+    let single = ObjectName::single(Text::new(rt.alloc(), "a")?);
     assert!(rt; index.find(&single) == Some(2));
     drop(single);
     assert!(rt; index.find(&named(rt.alloc(), "b", "")?).is_none());

@@ -8,56 +8,56 @@ use Rattle.std.proofs.lemmas.Fmt.{decimal_injective}
 use Rattle.std.proofs.lemmas.List.Folds.{list_any-append}
 use Rattle.std.proofs.lemmas.Slice.Eq.{bytes_eq-Decides}
 use Rattle.lq_records.specs.declared.base.Rules.{Rules}
-use Rattle.lq_names.specs.Names.{Name, is_equal_name, place_of, single}
+use Rattle.lq_names.specs.Names.{ObjectName, is_equal_name, place_of, single}
 use Rattle.lq_objects.specs.Kinds.{limit}
 use Rattle.lq_objects.specs.Objects.{base_of}
 use Rattle.lq_workload.specs.Accepted.{IsAccepted}
 use Rattle.lq_workload.specs.Draws.{after_draws, drawn_after}
 use Rattle.lq_workload.specs.Objects.{contact_block, contact_name, contacts_text, drawn_service, group_block, group_name, groups_text, host_block, host_name, host_services, hosts_text, objects_text, service_block, service_description, services_text}
 use Rattle.lq_workload.proofs.FileLemmas.{HasNames, Says, base_accepted, file_faultless, fresh, fresh-append, names_of, names_of-append, objects_below, says_below, says_both, says_object}
-use Rattle.lq_workload.proofs.KindLemmas.{IsUsed, Kind, contact_kind, group_kind, host_kind, service_kind}
+use Rattle.lq_workload.proofs.KindLemmas.{IsUsed, BlockKind, contact_kind, group_kind, host_kind, service_kind}
 use Rattle.lq_workload.proofs.LogLemmas.{drawn_less, log_accepted}
 use Rattle.lq_workload.proofs.ObjectLemmas.{contact_object, group_object, host_object, service_object}
 
 -- ---- the objects
 
-abbrev contact_of : ℕ → Name
+abbrev contact_of : ℕ → ObjectName
 contact_of contact = single (contact_name contact)
 
-abbrev host_of : ℕ → Name
+abbrev host_of : ℕ → ObjectName
 host_of host = single (host_name host)
 
-abbrev service_of : ℕ → ℕ → Name
+abbrev service_of : ℕ → ℕ → ObjectName
 service_of host service = record { first = host_name host; second = service_description service }
 
-abbrev group_of : ℕ → Name
+abbrev group_of : ℕ → ObjectName
 group_of group = single (group_name group)
 
-abbrev one_contact : ℕ → List (Kind × Name)
+abbrev one_contact : ℕ → List (BlockKind × ObjectName)
 one_contact contact = (contact_kind, contact_of contact) ∷ []
 
-abbrev one_host : ℕ → List (Kind × Name)
+abbrev one_host : ℕ → List (BlockKind × ObjectName)
 one_host host = (host_kind, host_of host) ∷ []
 
-abbrev one_service : ℕ → ℕ → List (Kind × Name)
+abbrev one_service : ℕ → ℕ → List (BlockKind × ObjectName)
 one_service host service = (service_kind, service_of host service) ∷ []
 
-abbrev ten_services : ℕ → List (Kind × Name)
+abbrev ten_services : ℕ → List (BlockKind × ObjectName)
 ten_services host = objects_below 10 (one_service host)
 
-abbrev one_group : ℕ → List (Kind × Name)
+abbrev one_group : ℕ → List (BlockKind × ObjectName)
 one_group group = (group_kind, group_of group) ∷ []
 
-contacts : List (Kind × Name)
+contacts : List (BlockKind × ObjectName)
 contacts = objects_below 5 one_contact
 
-hosts : List (Kind × Name)
+hosts : List (BlockKind × ObjectName)
 hosts = objects_below 100 one_host
 
-services : List (Kind × Name)
+services : List (BlockKind × ObjectName)
 services = objects_below 100 ten_services
 
-groups : List (Kind × Name)
+groups : List (BlockKind × ObjectName)
 groups = objects_below 10 one_group
 
 says_contacts : Says contacts_text contacts
@@ -93,7 +93,7 @@ unfolding groups
 says_groups = says_below 10 group_block one_group
     (λ group less. says_object (group_block group) group_kind (group_of group) (group_object group less))
 
-abbrev all_objects : List (Kind × Name)
+abbrev all_objects : List (BlockKind × ObjectName)
 all_objects = ((contacts ++ hosts) ++ services) ++ groups
 
 says_all : (number : ℕ) → Says (objects_text number) all_objects
@@ -106,11 +106,11 @@ says_all number =
 -- ---- the names of a kind
 
 -- the lists of the numbers below a number, joined
-abbrev lists_below : ℕ → (ℕ → List Name) → List Name
+abbrev lists_below : ℕ → (ℕ → List ObjectName) → List ObjectName
 lists_below zero names = []
 lists_below (suc count) names = lists_below count names ++ names count
 
-names_each : (kind : Kind) (count : ℕ) (objects : ℕ → List (Kind × Name)) (names : ℕ → List Name) → ((place : ℕ) → names_of kind (objects place) ≡ names place)
+names_each : (kind : BlockKind) (count : ℕ) (objects : ℕ → List (BlockKind × ObjectName)) (names : ℕ → List ObjectName) → ((place : ℕ) → names_of kind (objects place) ≡ names place)
     → names_of kind (objects_below count objects) ≡ lists_below count names
 names_each kind zero objects names each = refl
 names_each kind (suc count) objects names each =
@@ -121,10 +121,10 @@ empty_below : (count : ℕ) → lists_below count (λ place. []) ≡ []
 empty_below zero = refl
 empty_below (suc count) = ap (λ front. front ++ []) (empty_below count)
 
-no_names : (kind : Kind) (count : ℕ) (objects : ℕ → List (Kind × Name)) → ((place : ℕ) → names_of kind (objects place) ≡ []) → names_of kind (objects_below count objects) ≡ []
+no_names : (kind : BlockKind) (count : ℕ) (objects : ℕ → List (BlockKind × ObjectName)) → ((place : ℕ) → names_of kind (objects place) ≡ []) → names_of kind (objects_below count objects) ≡ []
 no_names kind count objects each = names_each kind count objects (λ place. []) each ∙ empty_below count
 
-names_all : (kind : Kind) (a b c d : List Name) → names_of kind contacts ≡ a → names_of kind hosts ≡ b → names_of kind services ≡ c → names_of kind groups ≡ d
+names_all : (kind : BlockKind) (a b c d : List ObjectName) → names_of kind contacts ≡ a → names_of kind hosts ≡ b → names_of kind services ≡ c → names_of kind groups ≡ d
     → names_of kind all_objects ≡ ((a ++ b) ++ c) ++ d
 names_all kind a b c d first second third fourth =
     names_of-append kind ((contacts ++ hosts) ++ services) groups
@@ -132,19 +132,19 @@ names_all kind a b c d first second third fourth =
     (names_of-append kind (contacts ++ hosts) services ∙ ap₂ (λ x y. x ++ y) (names_of-append kind contacts hosts ∙ ap₂ (λ x y. x ++ y) first second) third)
     fourth
 
-abbrev contact_names : List Name
+abbrev contact_names : List ObjectName
 contact_names = lists_below 5 (λ contact. contact_of contact ∷ [])
 
-abbrev host_names : List Name
+abbrev host_names : List ObjectName
 host_names = lists_below 100 (λ host. host_of host ∷ [])
 
-abbrev row : ℕ → ℕ → List Name
+abbrev row : ℕ → ℕ → List ObjectName
 row host count = lists_below count (λ service. service_of host service ∷ [])
 
-abbrev rows : ℕ → List Name
+abbrev rows : ℕ → List ObjectName
 rows count = lists_below count (λ host. row host 10)
 
-abbrev group_names : List Name
+abbrev group_names : List ObjectName
 group_names = lists_below 10 (λ group. group_of group ∷ [])
 
 contacts_named : names_of contact_kind all_objects ≡ contact_names
@@ -191,29 +191,29 @@ decimals_differ a b small less other =
 same_bytes : (bytes : List ℕ) → bytes_eq bytes bytes ≡ true
 same_bytes bytes = (bytes_eq-Decides bytes bytes).1 refl
 
-same_name : (name : Name) → is_equal_name name name ≡ true
+same_name : (name : ObjectName) → is_equal_name name name ≡ true
 same_name name = and_from (bytes_eq name.first name.first) (bytes_eq name.second name.second) (same_bytes name.first) (same_bytes name.second)
 
-none_same : (name : Name) (count : ℕ) (names : ℕ → List Name) → ((place : ℕ) → place < count → list_any (is_equal_name name) (names place) ≡ false)
+none_same : (name : ObjectName) (count : ℕ) (names : ℕ → List ObjectName) → ((place : ℕ) → place < count → list_any (is_equal_name name) (names place) ≡ false)
     → list_any (is_equal_name name) (lists_below count names) ≡ false
 none_same name zero names each = refl
 none_same name (suc count) names each =
     list_any-append (is_equal_name name) (lists_below count names) (names count)
     ∙ or_from _ _ (none_same name count names (λ place less. each place (omega arith))) (each count (omega arith))
 
-length-singles : (count : ℕ) (name : ℕ → Name) → length (lists_below count (λ place. name place ∷ [])) ≡ count
+length-singles : (count : ℕ) (name : ℕ → ObjectName) → length (lists_below count (λ place. name place ∷ [])) ≡ count
 length-singles zero name = refl
 length-singles (suc count) name = length-append (lists_below count (λ place. name place ∷ [])) (name count ∷ []) ∙ omega (arith, length-singles count name)
 
 -- one name more
-fresh_more : (kind : Kind) (earlier names : List Name) (name : Name) → fresh kind earlier names ≡ true → list_any (is_equal_name name) (earlier ++ names) ≡ false
+fresh_more : (kind : BlockKind) (earlier names : List ObjectName) (name : ObjectName) → fresh kind earlier names ≡ true → list_any (is_equal_name name) (earlier ++ names) ≡ false
     → length (earlier ++ names) < limit kind → fresh kind earlier (names ++ name ∷ []) ≡ true
 fresh_more kind earlier names name before other few =
     fresh-append kind earlier names (name ∷ [])
     ∙ and_from _ _ before
     (and_from _ _ (and_from _ _ (not_from_false _ other) (not_from_false _ (lt-leb (limit kind) (length (earlier ++ names)) few))) refl)
 
-fresh_singles : (kind : Kind) (name : ℕ → Name) (most count : ℕ) → most ≤ limit kind → count ≤ most
+fresh_singles : (kind : BlockKind) (name : ℕ → ObjectName) (most count : ℕ) → most ≤ limit kind → count ≤ most
     → ((a b : ℕ) → b < a → a < most → is_equal_name (name a) (name b) ≡ false) → fresh kind [] (lists_below count (λ place. name place ∷ [])) ≡ true
 fresh_singles kind name most zero within few other = refl
 fresh_singles kind name most (suc count) within few other =
@@ -260,12 +260,12 @@ passes test (x ∷ xs) any =
       ]
     ]
 
-placed : (names : List Name) (name : Name) → list_any (is_equal_name name) names ≡ true → is_none (place_of names name) ≡ false
+placed : (names : List ObjectName) (name : ObjectName) → list_any (is_equal_name name) names ≡ true → is_none (place_of names name) ≡ false
 placed names name any =
     let first : ℕ = prefix_len (λ other. not (is_equal_name name other)) names in
     ap (λ found. is_none (cond found (Some first) None)) (lt-ltb first (length names) (passes (is_equal_name name) names any))
 
-any_below : (count place : ℕ) (name : ℕ → Name) → place < count → list_any (is_equal_name (name place)) (lists_below count (λ other. name other ∷ [])) ≡ true
+any_below : (count place : ℕ) (name : ℕ → ObjectName) → place < count → list_any (is_equal_name (name place)) (lists_below count (λ other. name other ∷ [])) ≡ true
 any_below zero place name less = absurd (omega arith)
 any_below (suc count) place name less =
     list_any-append (is_equal_name (name place)) (lists_below count (λ other. name other ∷ [])) (name count ∷ [])
@@ -295,7 +295,7 @@ groups_fresh = ap (fresh group_kind []) groups_named
     ∙ fresh_singles group_kind group_of 10 10 (omega arith) (omega arith)
     (λ a b less few. and_left _ _ (decimals_differ a b (omega arith) (omega arith) (λ is. omega (arith, is))))
 
-all_fresh : (kind : Kind) → IsUsed kind → fresh kind [] (names_of kind all_objects) ≡ true
+all_fresh : (kind : BlockKind) → IsUsed kind → fresh kind [] (names_of kind all_objects) ≡ true
 all_fresh kind (inl is) = ap (λ k. fresh k [] (names_of k all_objects)) is ∙ contacts_fresh
 all_fresh kind (inr (inl is)) = ap (λ k. fresh k [] (names_of k all_objects)) is ∙ hosts_fresh
 all_fresh kind (inr (inr (inl is))) = ap (λ k. fresh k [] (names_of k all_objects)) is ∙ services_fresh

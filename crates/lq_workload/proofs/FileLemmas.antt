@@ -7,40 +7,40 @@ use Rattle.std.proofs.lemmas.Bool.{and_parts, not-true}
 use Rattle.std.proofs.lemmas.List.{map-append}
 use Rattle.std.proofs.lemmas.List.Elements.{filter-append}
 use Rattle.std.proofs.lemmas.Slice.Eq.{bytes_eq-Decides}
-use Rattle.lq_names.specs.Names.{Name, is_equal_name, place_of, single}
+use Rattle.lq_names.specs.Names.{ObjectName, is_equal_name, place_of, single}
 use Rattle.lq_records.specs.declared.base.Rules.{Rules}
 use Rattle.lq_objects.specs.Blocks.{Line, Part, opened_word, parts_of, telling_lines}
 use Rattle.lq_objects.specs.Faults.{block_fault, block_of, blocks_of, fault_if, fault_of, first_of, is_bad_name, known_block, lacks_name, name_fault, opened_fault, part_fault, parts_fault, unknown_in, unknown_in_block}
 use Rattle.lq_objects.specs.Kinds.{kind_named, kind_word, limit}
 use Rattle.lq_objects.specs.Names.{Block, block_names, is_of, name_of}
 use Rattle.lq_objects.specs.Objects.{base_of}
-use Rattle.lq_objects.specs.declared.fault.Fault.{Fault}
+use Rattle.lq_objects.specs.declared.fault.FaultyLine.{FaultyLine}
 use Rattle.lq_objects.specs.declared.fault.ObjectsWhat.TheVariants.{BadName, NoName, TooMany, Twice}
 use Rattle.lq_objects.proofs.ListLemmas.{option_or_none}
 use Rattle.lq_workload.specs.Objects.{contact_name, host_name}
 use Rattle.lq_workload.specs.Texts.{texts_below}
-use Rattle.lq_workload.proofs.KindLemmas.{IsUsed, Kind, contact_kind, host_kind}
+use Rattle.lq_workload.proofs.KindLemmas.{IsUsed, BlockKind, contact_kind, host_kind}
 use Rattle.lq_workload.proofs.PartLemmas.{Each, IsFine, IsTold, Opens, block_first, block_part, block_texts, inner_fine, lines_text, opening, tell, told}
 
 -- ---- names that may be given
 
 -- the contacts and the hosts that a file names are there
-pub record HasNames (known : Kind → List Name) : Type 0 where
+pub record HasNames (known : BlockKind → List ObjectName) : Type 0 where
   pub contacts : (contact : ℕ) → contact < 5 → is_none (place_of (known contact_kind) (single (contact_name contact))) ≡ false
   pub hosts : (host : ℕ) → host < 100 → is_none (place_of (known host_kind) (single (host_name host))) ≡ false
 
 -- names that none of those before has, and no more than there may be
-abbrev pub fresh : Kind → List Name → List Name → Bool
+abbrev pub fresh : BlockKind → List ObjectName → List ObjectName → Bool
 fresh kind earlier [] = true
 fresh kind earlier (name ∷ names) =
     (not (list_any (is_equal_name name) earlier) && not (nat_le (limit kind) (length earlier))) && fresh kind (earlier ++ name ∷ []) names
 
 -- the names of a kind among objects
-abbrev pub names_of : Kind → List (Kind × Name) → List Name
+abbrev pub names_of : BlockKind → List (BlockKind × ObjectName) → List ObjectName
 names_of kind [] = []
 names_of kind (object ∷ objects) = cond (bytes_eq (kind_word object.0) (kind_word kind)) (object.1 ∷ names_of kind objects) (names_of kind objects)
 
-pub names_of-append : (kind : Kind) (first second : List (Kind × Name)) → names_of kind (first ++ second) ≡ names_of kind first ++ names_of kind second
+pub names_of-append : (kind : BlockKind) (first second : List (BlockKind × ObjectName)) → names_of kind (first ++ second) ≡ names_of kind first ++ names_of kind second
 names_of-append kind [] second = refl
 names_of-append kind (object ∷ first) second =
     elim (bytes_eq (kind_word object.0) (kind_word kind)) as (λ is. cond is (object.1 ∷ names_of kind (first ++ second)) (names_of kind (first ++ second))
@@ -53,7 +53,7 @@ and_assoc : (a b c : Bool) → (a && (b && c)) ≡ ((a && b) && c)
 and_assoc true b c = refl
 and_assoc false b c = refl
 
-pub fresh-append : (kind : Kind) (earlier first second : List Name) → fresh kind earlier (first ++ second) ≡ (fresh kind earlier first && fresh kind (earlier ++ first) second)
+pub fresh-append : (kind : BlockKind) (earlier first second : List ObjectName) → fresh kind earlier (first ++ second) ≡ (fresh kind earlier first && fresh kind (earlier ++ first) second)
 fresh-append kind earlier [] second = ap (λ names. fresh kind names second) (sym (append-nil earlier))
 fresh-append kind earlier (name ∷ first) second =
     let here : Bool = not (list_any (is_equal_name name) earlier) && not (nat_le (limit kind) (length earlier)) in
@@ -64,7 +64,7 @@ fresh-append kind earlier (name ∷ first) second =
 -- ---- one object
 
 -- A text is the block of an object, and the block has no fault of its own.
-pub record IsObject (text : List ℕ) (kind : Kind) (name : Name) : Type 0 where
+pub record IsObject (text : List ℕ) (kind : BlockKind) (name : ObjectName) : Type 0 where
   pub used : IsUsed kind
   pub opens : Opens kind
   pub inner : List (List ℕ)
@@ -74,21 +74,21 @@ pub record IsObject (text : List ℕ) (kind : Kind) (name : Name) : Type 0 where
   pub named : (before : ℕ) → name_of kind (told before inner) ≡ name
   pub some : lacks_name kind name ≡ false
   pub good : is_bad_name kind name ≡ false
-  pub known : (before : ℕ) (known : Kind → List Name) → HasNames known → unknown_in known kind (told before inner) ≡ None
+  pub known : (before : ℕ) (known : BlockKind → List ObjectName) → HasNames known → unknown_in known kind (told before inner) ≡ None
 
 -- ---- a stretch of a file
 
 -- Objects are all that a text says, wherever it stands, and no line of it has a fault where their names may be given.
-pub record Stretch (text : List ℕ) (objects : List (Kind × Name)) (before : ℕ) : Type 0 where
+pub record Stretch (text : List ℕ) (objects : List (BlockKind × ObjectName)) (before : ℕ) : Type 0 where
   pub next : ℕ
   pub parts : List Part
   pub read : (rest : List ℕ) → parts_of (tell before (text ++ rest)) ≡ parts ++ parts_of (tell next rest)
-  pub names : (kind : Kind) → IsUsed kind → block_names (blocks_of parts) kind ≡ names_of kind objects
-  pub faultless : (blocks : List Block) (later : List Part) → ((kind : Kind) → IsUsed kind → fresh kind (block_names blocks kind) (names_of kind objects) ≡ true)
+  pub names : (kind : BlockKind) → IsUsed kind → block_names (blocks_of parts) kind ≡ names_of kind objects
+  pub faultless : (blocks : List Block) (later : List Part) → ((kind : BlockKind) → IsUsed kind → fresh kind (block_names blocks kind) (names_of kind objects) ≡ true)
       → parts_fault blocks (parts ++ later) ≡ parts_fault (blocks ++ blocks_of parts) later
-  pub known : (known : Kind → List Name) → HasNames known → first_of (unknown_in_block known) (blocks_of parts) ≡ None
+  pub known : (known : BlockKind → List ObjectName) → HasNames known → first_of (unknown_in_block known) (blocks_of parts) ≡ None
 
-abbrev pub Says : List ℕ → List (Kind × Name) → Type 0
+abbrev pub Says : List ℕ → List (BlockKind × ObjectName) → Type 0
 Says text objects = (before : ℕ) → Stretch text objects before
 
 pub says_nothing : Says [] []
@@ -103,13 +103,13 @@ says_nothing before = record {
 
 -- ---- one object is a stretch
 
-found_kind : (kind : Kind) → Opens kind → option_and_then kind_named (opened_word (opening kind)) ≡ Some kind
+found_kind : (kind : BlockKind) → Opens kind → option_and_then kind_named (opened_word (opening kind)) ≡ Some kind
 found_kind kind opens = ap (λ word. option_and_then kind_named word) opens.word ∙ opens.found
 
-block_is : (kind : Kind) (inner : List (List ℕ)) (before : ℕ) → Opens kind → block_of (block_part before kind inner).lines ≡ record { kind = kind; lines = told (before + 1) inner } ∷ []
+block_is : (kind : BlockKind) (inner : List (List ℕ)) (before : ℕ) → Opens kind → block_of (block_part before kind inner).lines ≡ record { kind = kind; lines = told (before + 1) inner } ∷ []
 block_is kind inner before opens = ap (λ found. known_block found (told (before + 1) inner)) (found_kind kind opens)
 
-may_be_named : (kind : Kind) (earlier : List Name) (name : Name) (number : ℕ) → lacks_name kind name ≡ false → is_bad_name kind name ≡ false
+may_be_named : (kind : BlockKind) (earlier : List ObjectName) (name : ObjectName) (number : ℕ) → lacks_name kind name ≡ false → is_bad_name kind name ≡ false
     → list_any (is_equal_name name) earlier ≡ false → nat_le (limit kind) (length earlier) ≡ false → name_fault kind earlier name number ≡ None
 may_be_named kind earlier name number some good other few =
     ap (λ test. option_or (fault_if test number NoName) (option_or (fault_if (is_bad_name kind name) number BadName)
@@ -119,7 +119,7 @@ may_be_named kind earlier name number some good other few =
     ∙ ap (λ test. option_or (fault_if test number Twice) (fault_if (nat_le (limit kind) (length earlier)) number TooMany)) other
     ∙ ap (λ test. fault_if test number TooMany) few
 
-part_fine : (kind : Kind) (inner : List (List ℕ)) (before : ℕ) (earlier : Kind → List Name) (name : Name) → Opens kind → Each (IsFine kind) inner
+part_fine : (kind : BlockKind) (inner : List (List ℕ)) (before : ℕ) (earlier : BlockKind → List ObjectName) (name : ObjectName) → Opens kind → Each (IsFine kind) inner
     → name_of kind (told (before + 1) inner) ≡ name → lacks_name kind name ≡ false → is_bad_name kind name ≡ false
     → list_any (is_equal_name name) (earlier kind) ≡ false → nat_le (limit kind) (length (earlier kind)) ≡ false
     → part_fault earlier (block_part before kind inner).lines (block_part before kind inner).closing ≡ None
@@ -132,31 +132,31 @@ part_fine kind inner before earlier name opens fine named some good other few =
     ∙ ap (λ n. name_fault kind (earlier kind) n end.number) named
     ∙ may_be_named kind (earlier kind) name end.number some good other few
 
-found_used : (kind : Kind) → IsUsed kind → kind_named (kind_word kind) ≡ Some kind
+found_used : (kind : BlockKind) → IsUsed kind → kind_named (kind_word kind) ≡ Some kind
 found_used kind (inl is) = subst (λ k. kind_named (kind_word k) ≡ Some k) (sym is) refl
 found_used kind (inr (inl is)) = subst (λ k. kind_named (kind_word k) ≡ Some k) (sym is) refl
 found_used kind (inr (inr (inl is))) = subst (λ k. kind_named (kind_word k) ≡ Some k) (sym is) refl
 found_used kind (inr (inr (inr is))) = subst (λ k. kind_named (kind_word k) ≡ Some k) (sym is) refl
 
-same_kind : (kind other : Kind) → Opens kind → IsUsed other → bytes_eq (kind_word kind) (kind_word other) ≡ true → kind ≡ other
+same_kind : (kind other : BlockKind) → Opens kind → IsUsed other → bytes_eq (kind_word kind) (kind_word other) ≡ true → kind ≡ other
 same_kind kind other opens used same =
     let found : Some kind ≡ Some other =
     sym opens.found ∙ ap kind_named ((bytes_eq-Decides (kind_word kind) (kind_word other)).0 same) ∙ found_used other used in
     cc
 
-named_by : (is : Bool) (kind other : Kind) (lines : List Line) (name : Name) → (is ≡ true → name_of other lines ≡ name)
+named_by : (is : Bool) (kind other : BlockKind) (lines : List Line) (name : ObjectName) → (is ≡ true → name_of other lines ≡ name)
     → map (λ (block : Block). name_of other block.lines) (cond is (record { kind = kind; lines = lines } ∷ []) []) ≡ cond is (name ∷ []) []
 named_by true kind other lines name named = ap (λ found. found ∷ []) (named refl)
 named_by false kind other lines name named = refl
 
 -- the block's name is the object's, where the block is of the kind that is asked for
-named_once : (kind other : Kind) (lines : List Line) (name : Name) → Opens kind → IsUsed other → name_of kind lines ≡ name
+named_once : (kind other : BlockKind) (lines : List Line) (name : ObjectName) → Opens kind → IsUsed other → name_of kind lines ≡ name
     → block_names (record { kind = kind; lines = lines } ∷ []) other ≡ names_of other ((kind, name) ∷ [])
 named_once kind other lines name opens used named =
     named_by (bytes_eq (kind_word kind) (kind_word other)) kind other lines name
     (λ same. ap (λ k. name_of k lines) (sym (same_kind kind other opens used same)) ∙ named)
 
-pub says_object : (text : List ℕ) (kind : Kind) (name : Name) → IsObject text kind name → Says text ((kind, name) ∷ [])
+pub says_object : (text : List ℕ) (kind : BlockKind) (name : ObjectName) → IsObject text kind name → Says text ((kind, name) ∷ [])
 says_object text kind name is before =
     let part : Part = block_part before kind is.inner in
     let one : names_of kind ((kind, name) ∷ []) ≡ name ∷ [] = ap (λ same. cond same (name ∷ []) []) ((bytes_eq-Decides (kind_word kind) (kind_word kind)).1 refl) in
@@ -167,7 +167,7 @@ says_object text kind name is before =
       names = λ other used. ap (λ blocks. block_names (blocks ++ []) other) (block_is kind is.inner before is.opens)
           ∙ named_once kind other (told (before + 1) is.inner) name is.opens used (is.named (before + 1));
       faultless = λ blocks later names.
-          let earlier : List Name = block_names blocks kind in
+          let earlier : List ObjectName = block_names blocks kind in
           let new : fresh kind earlier (name ∷ []) ≡ true = ap (fresh kind earlier) (sym one) ∙ names kind is.used in
           let both = and_parts (not (list_any (is_equal_name name) earlier)) (not (nat_le (limit kind) (length earlier)))
           (and_parts (not (list_any (is_equal_name name) earlier) && not (nat_le (limit kind) (length earlier))) true new).0 in
@@ -186,18 +186,18 @@ blocks_of-append [] second = refl
 blocks_of-append (part ∷ first) second =
     ap (λ blocks. block_of part.lines ++ blocks) (blocks_of-append first second) ∙ sym (append_assoc (block_of part.lines) (blocks_of first) (blocks_of second))
 
-block_names-append : (first second : List Block) (kind : Kind) → block_names (first ++ second) kind ≡ block_names first kind ++ block_names second kind
+block_names-append : (first second : List Block) (kind : BlockKind) → block_names (first ++ second) kind ≡ block_names first kind ++ block_names second kind
 block_names-append first second kind =
     ap (map (λ (block : Block). name_of kind block.lines)) (filter-append (is_of kind) first second)
     ∙ map-append (λ (block : Block). name_of kind block.lines) (filter (is_of kind) first) (filter (is_of kind) second)
 
-first_of-append : {X : Type 0} (fault : X → Option Fault) (first second : List X) → first_of fault first ≡ None → first_of fault (first ++ second) ≡ first_of fault second
+first_of-append : {X : Type 0} (fault : X → Option FaultyLine) (first second : List X) → first_of fault first ≡ None → first_of fault (first ++ second) ≡ first_of fault second
 first_of-append fault [] second none = refl
 first_of-append fault (x ∷ first) second none =
     let both = option_or_none (fault x) (first_of fault first) none in
     ap (λ found. option_or found (first_of fault (first ++ second))) both.0 ∙ first_of-append fault first second both.1
 
-pub says_both : (text more : List ℕ) (objects others : List (Kind × Name)) → Says text objects → Says more others → Says (text ++ more) (objects ++ others)
+pub says_both : (text more : List ℕ) (objects others : List (BlockKind × ObjectName)) → Says text objects → Says more others → Says (text ++ more) (objects ++ others)
 says_both text more objects others first second before =
     let a : Stretch text objects before = first before in
     let b : Stretch more others a.next = second a.next in
@@ -210,7 +210,7 @@ says_both text more objects others first second before =
           ∙ block_names-append (blocks_of a.parts) (blocks_of b.parts) kind ∙ ap₂ (λ x y. x ++ y) (a.names kind used) (b.names kind used)
           ∙ sym (names_of-append kind objects others);
       faultless = λ blocks later names.
-          let apart : (kind : Kind) → IsUsed kind → (fresh kind (block_names blocks kind) (names_of kind objects)
+          let apart : (kind : BlockKind) → IsUsed kind → (fresh kind (block_names blocks kind) (names_of kind objects)
           && fresh kind (block_names blocks kind ++ names_of kind objects) (names_of kind others)) ≡ true =
           λ kind used. sym (ap (fresh kind (block_names blocks kind)) (names_of-append kind objects others)
           ∙ fresh-append kind (block_names blocks kind) (names_of kind objects) (names_of kind others)) ∙ names kind used in
@@ -227,11 +227,11 @@ says_both text more objects others first second before =
     }
 
 -- the objects of the numbers below a number
-abbrev pub objects_below : ℕ → (ℕ → List (Kind × Name)) → List (Kind × Name)
+abbrev pub objects_below : ℕ → (ℕ → List (BlockKind × ObjectName)) → List (BlockKind × ObjectName)
 objects_below zero objects = []
 objects_below (suc count) objects = objects_below count objects ++ objects count
 
-pub says_below : (count : ℕ) (text : ℕ → List ℕ) (objects : ℕ → List (Kind × Name)) → ((place : ℕ) → place < count → Says (text place) (objects place))
+pub says_below : (count : ℕ) (text : ℕ → List ℕ) (objects : ℕ → List (BlockKind × ObjectName)) → ((place : ℕ) → place < count → Says (text place) (objects place))
     → Says (texts_below count text) (objects_below count objects)
 unfolding texts_below
 says_below zero text objects each = says_nothing
@@ -241,7 +241,7 @@ says_below (suc count) text objects each =
 
 -- ---- the whole file
 
-pub file_faultless : (text : List ℕ) (objects : List (Kind × Name)) → Says text objects → ((kind : Kind) → IsUsed kind → fresh kind [] (names_of kind objects) ≡ true)
+pub file_faultless : (text : List ℕ) (objects : List (BlockKind × ObjectName)) → Says text objects → ((kind : BlockKind) → IsUsed kind → fresh kind [] (names_of kind objects) ≡ true)
     → HasNames (λ kind. names_of kind objects) → fault_of (parts_of (telling_lines text)) ≡ None
 file_faultless text objects says names has =
     let all : Stretch text objects 0 = says 0 in

@@ -12,19 +12,19 @@ from_some (Some x) is = x
 abbrev type_of : {X : Type 0} → Option X → Type 0
 type_of {X} found = X
 
-abbrev pub Kind : Type 0
-Kind = type_of (kind_named [])
+abbrev pub BlockKind : Type 0
+BlockKind = type_of (kind_named [])
 
-abbrev pub contact_kind : Kind
+abbrev pub contact_kind : BlockKind
 contact_kind = from_some (kind_named (codes "contact")) refl
 
-abbrev pub host_kind : Kind
+abbrev pub host_kind : BlockKind
 host_kind = from_some (kind_named (codes "host")) refl
 
-abbrev pub service_kind : Kind
+abbrev pub service_kind : BlockKind
 service_kind = from_some (kind_named (codes "service")) refl
 
-abbrev pub group_kind : Kind
+abbrev pub group_kind : BlockKind
 group_kind = from_some (kind_named (codes "hostgroup")) refl
 
 abbrev pub Reference : Type 0
@@ -41,5 +41,5 @@ abbrev pub members_reference : Reference
 members_reference = from_some (slice_get (references group_kind) 0) refl
 
 -- the kinds of a workload's objects
-abbrev pub IsUsed : Kind → Type 0
+abbrev pub IsUsed : BlockKind → Type 0
 IsUsed kind = (kind ≡ contact_kind) ⊎ ((kind ≡ host_kind) ⊎ ((kind ≡ service_kind) ⊎ (kind ≡ group_kind)))

@@ -6,7 +6,7 @@ use Rattle.std.specs.List.{list_all, list_any}
 use Rattle.std.specs.Option.{option_map_or, option_or}
 use Rattle.std.proofs.lemmas.Bool.{and_right, ne_eqb, or_from}
 use Rattle.lq_text.specs.Blanks.{is_blank}
-use Rattle.lq_names.specs.Names.{Name, place_of, single}
+use Rattle.lq_names.specs.Names.{ObjectName, place_of, single}
 use Rattle.lq_records.specs.Clean.{text_of_bytes}
 use Rattle.lq_objects.specs.Blocks.{Line, is_named}
 use Rattle.lq_objects.specs.Faults.{fault_if, is_unknown, names_unknown}
@@ -16,7 +16,7 @@ use Rattle.lq_workload.specs.Objects.{contact_block, contact_name, directive_lin
 use Rattle.lq_workload.specs.Texts.{texts_below}
 use Rattle.lq_workload.proofs.ByteLemmas.{is_inner, list_all-both}
 use Rattle.lq_workload.proofs.FileLemmas.{HasNames, IsObject}
-use Rattle.lq_workload.proofs.KindLemmas.{Kind, contact_kind, contacts_reference, group_kind, host_kind, host_reference, members_reference, service_kind}
+use Rattle.lq_workload.proofs.KindLemmas.{BlockKind, contact_kind, contacts_reference, group_kind, host_kind, host_reference, members_reference, service_kind}
 use Rattle.lq_workload.proofs.LineLemmas.{concat_onto}
 use Rattle.lq_workload.proofs.PartLemmas.{IsFine, IsTold, directive_here, directive_later, opens_contact, opens_group, opens_host, opens_service, told, told_by}
 use Rattle.lq_workload.proofs.WordLemmas.{IsWord, cleaned_word, decimal_word, elements_more, elements_word, is_letter, is_solid, letter_before, named_text, no_separator, value_named, value_solid, word_solid}
@@ -36,16 +36,16 @@ text_of name word number later is none =
 -- ---- names of others
 
 -- each of several words is among names
-abbrev AllThere : List Name → List (List ℕ) → Type 0
+abbrev AllThere : List ObjectName → List (List ℕ) → Type 0
 AllThere names [] = Unit {0}
 AllThere names (word ∷ words) = (is_none (place_of names (single word)) ≡ false) × AllThere names words
 
-none_unknown : (names : List Name) (words : List (List ℕ)) → AllThere names words
+none_unknown : (names : List ObjectName) (words : List (List ℕ)) → AllThere names words
     → list_any (λ name. is_none (place_of names name)) (map single words) ≡ false
 none_unknown names [] there = refl
 none_unknown names (word ∷ words) there = or_from _ _ there.0 (none_unknown names words there.1)
 
-contacts_known : (known : Kind → List Name) (contact number : ℕ) (later : List Line) → HasNames known → contact < 5
+contacts_known : (known : BlockKind → List ObjectName) (contact number : ℕ) (later : List Line) → HasNames known → contact < 5
     → names_unknown known (record { number = number; text = codes "contacts" ++ 32 ∷ contact_name contact }) later contacts_reference ≡ false
 contacts_known known contact number later has less =
     let word : IsWord (contact_name contact) = name_word 99 contact refl (omega (arith, less)) in
@@ -54,7 +54,7 @@ contacts_known known contact number later has less =
     ∙ ap (λ words. list_any (λ name. is_none (place_of (known contact_kind) name)) (map single words)) (elements_word (contact_name contact) word)
     ∙ none_unknown (known contact_kind) (contact_name contact ∷ []) (has.contacts contact less, tt))
 
-service_host_known : (known : Kind → List Name) (host number : ℕ) (later : List Line) → HasNames known → host < 100
+service_host_known : (known : BlockKind → List ObjectName) (host number : ℕ) (later : List Line) → HasNames known → host < 100
     → names_unknown known (record { number = number; text = codes "host_name" ++ 32 ∷ host_name host }) later host_reference ≡ false
 service_host_known known host number later has less =
     let word : IsWord (host_name host) = name_word 104 host refl (omega (arith, less)) in
@@ -234,7 +234,7 @@ all_words (suc count) word each = words_more (words_below count word) (word coun
     words_more [] last all is = (is, tt)
     words_more (one ∷ words) last all is = (all.0, words_more words last all.1 is)
 
-all_there : (names : List Name) (count : ℕ) (word : ℕ → List ℕ) → ((place : ℕ) → place < count → is_none (place_of names (single (word place))) ≡ false)
+all_there : (names : List ObjectName) (count : ℕ) (word : ℕ → List ℕ) → ((place : ℕ) → place < count → is_none (place_of names (single (word place))) ≡ false)
     → AllThere names (words_below count word)
 all_there names zero word each = tt
 all_there names (suc count) word each =
@@ -268,7 +268,7 @@ members_solid group less =
     ∙ list_all-both is_solid (host_name group) (after (words_below 9 (further group))) (word_solid (host_name group) (name_word 104 group refl (omega (arith, less))).letters)
     (after_solid (words_below 9 (further group)) (further_words group less))
 
-members_known : (known : Kind → List Name) (group number : ℕ) (later : List Line) → HasNames known → group < 10
+members_known : (known : BlockKind → List ObjectName) (group number : ℕ) (later : List Line) → HasNames known → group < 10
     → names_unknown known (record { number = number; text = codes "members" ++ 32 ∷ members group }) later members_reference ≡ false
 members_known known group number later has less =
     let words : List (List ℕ) = words_below 9 (further group) in

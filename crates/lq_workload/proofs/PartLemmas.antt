@@ -11,7 +11,7 @@ use Rattle.lq_objects.specs.Faults.{first_of, inner_fault}
 use Rattle.lq_objects.specs.Kinds.{kind_named, kind_word}
 use Rattle.lq_objects.proofs.ListLemmas.{find-last}
 use Rattle.lq_workload.proofs.ByteLemmas.{is_inner, list_all-both, list_all-weaker}
-use Rattle.lq_workload.proofs.KindLemmas.{Kind, contact_kind, group_kind, host_kind, service_kind}
+use Rattle.lq_workload.proofs.KindLemmas.{BlockKind, contact_kind, group_kind, host_kind, service_kind}
 use Rattle.lq_workload.proofs.LineLemmas.{line_first}
 use Rattle.lq_workload.proofs.WordLemmas.{is_solid, solid_inner, trim_kept}
 
@@ -71,11 +71,11 @@ tell_all (text ∷ texts) before rest each =
 -- ---- blocks
 
 -- the line that opens a block
-abbrev pub opening : Kind → List ℕ
+abbrev pub opening : BlockKind → List ℕ
 opening kind = codes "define " ++ kind_word kind ++ codes " {"
 
 -- the line opens a block of its kind
-pub record Opens (kind : Kind) : Type 0 where
+pub record Opens (kind : BlockKind) : Type 0 where
   pub told : IsTold (opening kind)
   pub word : opened_word (opening kind) ≡ Some (kind_word kind)
   pub found : kind_named (kind_word kind) ≡ Some kind
@@ -93,10 +93,10 @@ pub opens_group : Opens group_kind
 opens_group = record { told = record { inner = refl; trim = refl; telling = λ number. refl; more = λ number. refl }; word = refl; found = refl }
 
 -- the lines of a block, and the part that they make
-abbrev pub block_texts : Kind → List (List ℕ) → List (List ℕ)
+abbrev pub block_texts : BlockKind → List (List ℕ) → List (List ℕ)
 block_texts kind inner = opening kind ∷ inner ++ codes "}" ∷ []
 
-abbrev pub block_part : ℕ → Kind → List (List ℕ) → Part
+abbrev pub block_part : ℕ → BlockKind → List (List ℕ) → Part
 block_part before kind inner = record {
   lines = record { number = before + 1; text = opening kind } ∷ told (before + 1) inner;
   closing = Some (record { number = before + 1 + length inner + 1; text = codes "}" });
@@ -122,7 +122,7 @@ lines_more : (texts : List (List ℕ)) (last rest : List ℕ) → lines_text (te
 lines_more [] last rest = refl
 lines_more (text ∷ texts) last rest = ap (λ back. text ++ 10 ∷ back) (lines_more texts last rest)
 
-pub block_first : (kind : Kind) (inner : List (List ℕ)) (before : ℕ) (rest : List ℕ) → Opens kind → Each IsTold inner
+pub block_first : (kind : BlockKind) (inner : List (List ℕ)) (before : ℕ) (rest : List ℕ) → Opens kind → Each IsTold inner
     → parts_of (tell before (lines_text (block_texts kind inner) rest)) ≡ block_part before kind inner ∷ parts_of (tell (before + 1 + length inner + 1) rest)
 block_first kind inner before rest opens each =
     let open_line : Line = record { number = before + 1; text = opening kind } in
@@ -139,10 +139,10 @@ block_first kind inner before rest opens each =
 -- ---- the lines within a block
 
 -- a line within a block of a kind has no fault
-abbrev pub IsFine : Kind → List ℕ → Type 0
+abbrev pub IsFine : BlockKind → List ℕ → Type 0
 IsFine kind text = (before number : ℕ) → inner_fault before (Some kind) (record { number = number; text = text }) ≡ None
 
-pub inner_fine : (kind : Kind) (texts : List (List ℕ)) (before start : ℕ) → Each (IsFine kind) texts
+pub inner_fine : (kind : BlockKind) (texts : List (List ℕ)) (before start : ℕ) → Each (IsFine kind) texts
     → first_of (inner_fault before (Some kind)) (told start texts) ≡ None
 inner_fine kind [] before start each = refl
 inner_fine kind (text ∷ texts) before start each =
