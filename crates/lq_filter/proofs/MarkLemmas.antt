@@ -8,7 +8,7 @@ use Rattle.lq_filter.specs.Marks.{AreKept, AreKeptBefore, AreKeptBetween}
 use Rattle.lq_filter.specs.Trees.{some_or_all}
 use Rattle.lq_filter.specs.declared.read.Test.{Test}
 
--- ---- one test behind another
+-- ---- one test after another
 
 both : (old first second : Bool) → ((old && first) && second) ≡ (old && (first && second))
 both true first second = refl

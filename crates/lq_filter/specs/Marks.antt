@@ -8,7 +8,7 @@ pub record AreKept {R : Type 0} (chosen : R → Bool) (rows : List R) (old new :
       slice_index_or new place false
       ≡ (slice_index_or old place false && chosen (slice_index_or rows place row))
 
--- the rows before a place have been looked at, and those behind it haven't
+-- the rows before a place have been looked at, and those after it haven't
 pub record AreKeptBefore {R : Type 0} (chosen : R → Bool) (rows : List R) (old new : List Bool)
     (end : ℕ) : Type 0 where
   pub done : (place : ℕ) (row : R) → place < end →

@@ -31,7 +31,7 @@ abbrev mutual
   truths_of truth NoTree = []
   truths_of truth (Then tree trees) = truth_of truth tree ∷ truths_of truth trees
 
--- a tree as a prefix expression, and trees one behind the other
+-- a tree as a prefix expression, and trees one after the other
 abbrev mutual
   pub prefix_of : Tree → List Header
   prefix_of (Tested test) = header.Test test ∷ []

@@ -1,4 +1,4 @@
--- What a test says, by its column, its operator and the value behind that.
+-- What a test says, by its column, its operator and the value after that.
 use Rattle.std.specs.Prelude.{◌≡◌, ℕ, ℤ, Bool, true, false, Option, None, Some, Result, Ok, Err}
 use Rattle.std.specs.Prelude.{List, [], ◌∷◌, bytes_eq, codes, find}
 use Rattle.std.specs.declared.cmp.Ordering.{Ordering}
@@ -137,7 +137,7 @@ abbrev pub of_column : Col → Result Check TestErr → Result Test TestErr
 of_column column (Ok check) = Ok (record { column = column; check = check })
 of_column column (Err error) = Err error
 
--- the test on a column, with an operator's word and the value behind it
+-- the test on a column, with an operator's word and the value after it
 abbrev pub test_read : Col → List ℕ → List ℕ → Result Test TestErr
 test_read column word value =
     of_column column (check_read (own_kind column.own) (operator_of word) value)

@@ -39,7 +39,7 @@ impl Drop for Property {
 pub enum Comparison {
     /// The number is equal to this one, less or greater.
     Number(Ordering, i64),
-    /// The text is equal to this one, or before or behind it in the order of bytes.
+    /// The text is equal to this one, or before or after it in the order of bytes.
     Text(Ordering, Text),
     /// The text, or an element of the list, is this one where ASCII letters count the same in both
     /// cases.

@@ -1,7 +1,7 @@
 ghost use Rattle.std.specs.Prelude.{◌≡◌};
 ghost use Rattle.lq_filter.specs.Reading.{operator_of};
 
-/// How a test compares a cell's value with the value behind the operator. What an operator says
+/// How a test compares a cell's value with the value after the operator. What an operator says
 /// goes by the kind of the column.
 #[derive(Clone, Copy)]
 pub enum Operator {

@@ -7,7 +7,7 @@ use regex::{Error, Matcher, Regex, RegexBuilder};
 use std::alloc::{AllocError, Global};
 use std::marker::Model;
 
-/// The most bytes that the text of a pattern may have.
+/// The most bytes that the text of a pattern may have. A longer one is no pattern.
 const MOST_BYTES: usize = 200;
 
 /// A pattern that is searched in texts. Contracts see it as its text, and whether letters match in
@@ -50,6 +50,8 @@ impl Pattern {
     pub fn ready(&self, alloc: Global) -> Result<ReadyPattern<'_>, Memory>
         ensures { IfOk result (λ ready. ready ≡ self.now) }
     {
+        // A matcher keeps caches of some forty million bytes, by its library's own account. So it is
+        // made once for all rows of a query.
         let matcher = self.regex.matcher(alloc)?;
         Ok(ReadyPattern {
             pattern: self,

@@ -49,7 +49,7 @@ impl From<AllocError> for TestErr {
 }
 
 impl Test {
-    /// The test of a column, by the word of an operator and the value behind it. A number's value
+    /// The test of a column, by the word of an operator and the value after it. A number's value
     /// loses the blanks at its end; any other is taken as it stands. The errors, the first that
     /// holds: `Operator` where the word is no operator; `NotAllowed` where the operator isn't one
     /// for the kind of the column, or where `=` or `!=` has a value on a list; `NotNumber` where

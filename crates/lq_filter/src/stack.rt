@@ -114,7 +114,7 @@ impl Stack {
         Ok(())
     }
 
-    /// Adds the headers of another stack, whose trees then stand behind those of this one. The only
+    /// Adds the headers of another stack, whose trees then stand after those of this one. The only
     /// error is out of memory, and then the stack stays as it was.
     pub fn append(&mut self, later: Stack) -> Result<(), Memory>
         ensures ok { OnOk result (self.new ≡ self.old ++ later) }
@@ -133,7 +133,8 @@ impl Stack {
         patterns_of(&self.nodes)
     }
 
-    /// The filter whose headers these are. It takes no memory, and there is no error.
+    /// The filter whose headers these are. The list that holds them becomes the filter's, so it
+    /// takes no memory, and there is no error.
     pub fn finish(self) -> Result<Filter, Memory>
         ensures same { IsOkAnd result (λ filter. filter ≡ self) }
         // The headers, read from the last one back, are prefix expressions.
@@ -150,7 +151,7 @@ fn patterns_of(nodes: &[Node]) -> usize
     nodes.iter().filter(|node| node.has_pattern()).count()
 }
 
-/// Adds a header behind the others, with the size of its tree.
+/// Adds a header after the others, with the size of its tree.
 fn add(nodes: &mut Vec<Node>, header: Header, size: usize) -> Result<(), Memory>
     ensures ok { OnOk result (nodes.new.items
         ≡ nodes.old.items ++ record { header = header; size = size } ∷ []) }
@@ -161,7 +162,7 @@ fn add(nodes: &mut Vec<Node>, header: Header, size: usize) -> Result<(), Memory>
     Ok(())
 }
 
-/// Adds the headers of other trees behind the others.
+/// Adds the headers of other trees after the others.
 fn add_all(nodes: &mut Vec<Node>, later: Vec<Node>) -> Result<(), Memory>
     ensures ok { OnOk result (nodes.new.items ≡ nodes.old.items ++ later.items) }
     ensures fits { OnOk result (length nodes.new.items < 2 ^ 64) }

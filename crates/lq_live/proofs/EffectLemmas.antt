@@ -124,7 +124,7 @@ change_line_adds moment test change None rest = refl
 change_line_adds moment false change (Some names) rest = refl
 change_line_adds moment true change (Some names) rest = omega arith
 
--- one edit behind the line of its change
+-- one edit after the line of its change
 change_effect : (change : DowntimeChange) (object : Object) (changed : List Downtime) (edit : Edit) (s : State) → EditAt s.now edit → additions edit ≤ 1
     → IsEffect s.now (change_edits change object changed s ++ edit ∷ [])
 change_effect change object changed edit s at one = record {

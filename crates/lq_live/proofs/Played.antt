@@ -112,7 +112,7 @@ acknowledge_plays : (old : Option Status) (object : Object) (sticky : ℕ) (new 
 acknowledge_plays None object sticky new s log = refl
 acknowledge_plays (Some old) object sticky new s log = unless_plays (is_ok old.state) _ _ (logged s log) refl
 
--- a change of the downtimes behind its line
+-- a change of the downtimes after its line
 change_plays : (change : DowntimeChange) (object : Object) (changed : List Downtime) (edit : Edit) (s : State) (log : List LogEntry)
     → play_edits (change_edits change object changed s ++ edit ∷ []) (logged s log)
     ≡ make_edit edit (logged s (log ++ line_if (crosses (depth object s.downtimes) (depth object changed)) s.now change (names_of s.base object)))

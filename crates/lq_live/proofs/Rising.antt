@@ -99,7 +99,7 @@ lines_append : (a b : List LogEntry) (rest : List Edit) → line_edits (a ++ b) 
 lines_append [] b rest = refl
 lines_append (entry ∷ a) b rest = ap (λ edits. edit.Line entry ∷ edits) (lines_append a b rest)
 
--- the lines of events, and others behind them
+-- the lines of events, and others after them
 pub due_timely : (low high : ℕ) (base : Base) (events : List Event) (ds : List Downtime) (rest : List Edit) → Rising low high events → low ≤ high → high < time_limit
     → Timely high rest → Timely low (line_edits (due_lines base events ds) ++ rest)
 due_timely low high base [] ds rest rising above below timely = timely_later low high rest above timely

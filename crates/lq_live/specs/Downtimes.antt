@@ -64,7 +64,7 @@ pub record IsDue (second : ℕ) (downtimes : List Downtime) (events : List Event
 
 -- ---- what is due, as a function
 
--- an item among others, behind all that it is greater than
+-- an item among others, after all that it is greater than
 abbrev pub put_in : {X : Type 0} → (X → X → Ordering) → X → List X → List X
 put_in order item [] = item ∷ []
 put_in order item (first ∷ items) =

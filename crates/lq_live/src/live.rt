@@ -98,6 +98,8 @@ impl Live {
         ensures front { IsFront self.old.state.log self.new.state.log }
         ensures err { OnErr result (self.new ≡ self.old) }
     {
+        // All edits are made first, which takes memory and changes nothing, and then played, which
+        // takes none: so after out of memory nothing has to be undone.
         let edits = step_edits(self.alloc, &self.state, u)?;
         reserve(&mut self.state, edits.len())?;
         play(&mut self.state, edits);

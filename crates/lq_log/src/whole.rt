@@ -15,10 +15,12 @@ use lq_text::next_line;
 use std::alloc::{AllocError, Global};
 use thiserror::Error;
 
-/// The most lines of a log, empty ones and those without a second included.
+/// The most lines of a log, empty ones and those without a second included. With one more the log
+/// is refused.
 const MOST_LINES: u64 = 200_000;
 
-/// The most bytes of a line, without its line feed and a carriage return before that.
+/// The most bytes of a line, without its line feed and a carriage return before that. With one more
+/// the log is refused.
 const LONGEST_LINE: usize = 8192;
 
 /// The bytes of a line that is shorter than most.

@@ -17,7 +17,7 @@ use Rattle.lq_output.specs.Writing.{AddsLines, HasNoRoom, Writing, is_some_of, s
 use Rattle.lq_output.specs.declared.layout.Layout.{Layout}
 use borrow.Rule.Slice.PartMut.{mid_len, put_mid, same_len_mid}
 
--- a line is written behind others
+-- a line is written after others
 pub written_line : (bytes part text : List ℕ) (at stop end : ℕ)
     → part ≡ text → stop ≡ at + length text → stop < length bytes
     → take (stop + 1) (slice_set (put_mid at (stop - at) bytes part) stop end) ≡ take at bytes ++ (text ++ end ∷ [])
@@ -50,7 +50,7 @@ more_lines line rows done count first mid last before after =
 
 -- ---- where lines stop
 
--- behind no line the place is that of the first
+-- after no line the place is that of the first
 pub place_of_none : {Row : Type 0} (line : Row → List ℕ) (rows : List Row) (bytes before : List ℕ) (start end count : ℕ)
     → count ≡ 0 → start ≤ length before → end ≤ length bytes
     → take end bytes ≡ take start before ++ flat_map line (take count rows) → end ≡ start
@@ -71,7 +71,7 @@ pub next_row : {Row : Type 0} (rows later : List Row) (row : Row) (done : ℕ)
 next_row rows later row done is =
     take_all (length rows - done) (drop done rows) (omega (arith, length-drop done rows)) ∙ is
 
--- no row is left behind the last one
+-- no row is left after the last one
 pub none_left : {Row : Type 0} (rows later : List Row) (row : Row) (done : ℕ)
     → length rows ≤ done → drop done rows ≡ row ∷ later → ⊥
 none_left rows later row done all is = omega (arith, length-drop done rows, ap length is, all)
@@ -95,7 +95,7 @@ module _ {Row : Type 0} (cell : Row → Value) (separators : Separators) where
   bytes_of_lines : (lines : List (List Value)) → so_far plain lines [] ≡ flat_map (λ text. text) (map (line_of_values plain) lines)
   bytes_of_lines lines = append-nil (joined_texts [] (map (line_of_values plain) lines)) ∙ joined_with_nothing (map (line_of_values plain) lines)
 
-  -- the bytes of csv are those of the lines, one behind the other
+  -- the bytes of csv are those of the lines, one after the other
   csv_lines : (body : List ℕ) (lines : List (List Value)) (rows : List Row)
       → body ≡ so_far plain lines []
       → body ++ flat_map (λ row. plain_line separators (cell row)) rows ≡ so_far plain (lines ++ map (λ row. cell row ∷ []) rows) []

@@ -11,7 +11,7 @@ use Rattle.lq_output.specs.declared.layout.Layout.{Layout}
 
 -- ---- joined texts
 
--- one more text behind others
+-- one more text after others
 joined_more : (between first : List ℕ) (later : List (List ℕ)) (text : List ℕ)
     → joined_texts between (first ∷ (later ++ text ∷ [])) ≡ joined_texts between (first ∷ later) ++ (between ++ text)
 joined_more between first later text =
@@ -91,7 +91,7 @@ later_line : (start lines between line cells last finish : List ℕ)
     → (start ++ (lines ++ (between ++ (line ++ cells)))) ++ (last ++ finish) ≡ start ++ ((lines ++ (between ++ (line ++ (cells ++ last)))) ++ finish)
 later_line start lines between line cells last finish = simp append_assoc
 
--- the open line ended behind some cells, and then any bytes
+-- the open line ended after some cells, and then any bytes
 ended : (layout : Layout) (lines : List (List Value)) (cell : Value) (cells : List Value) (finish : List ℕ)
     → so_far layout lines (cell ∷ cells) ++ ((marks_of layout).line_end ++ finish)
     ≡ (marks_of layout).start ++ (joined_texts (marks_of layout).between_lines (map (line_of_values layout) (lines ++ (cell ∷ cells) ∷ [])) ++ finish)
@@ -144,7 +144,7 @@ longer_line layout cells later =
     around marks.line_start (joined_texts marks.between_cells (texts cells)) (joined_texts marks.between_cells (texts (cells ++ later))) marks.line_end
     (rw (map-append (cell_text layout) cells later) (joined_front marks.between_cells (texts cells) (texts later)))
 
--- lines behind others, as their texts
+-- lines after others, as their texts
 texts_of : (layout : Layout) (lines : List (List Value)) (line : List Value) (more : List (List Value))
     → map (line_of_values layout) (lines ++ line ∷ more) ≡ (map (line_of_values layout) lines ++ line_of_values layout line ∷ []) ++ map (line_of_values layout) more
 texts_of layout lines line more =

@@ -14,7 +14,7 @@ gap_at spot = gap_of_cell (marks_of spot.layout) spot.has_line spot.has_cell
 abbrev pub text_at : Spot → Value → List ℕ
 text_at spot value = gap_at spot ++ cell_text spot.layout value
 
--- how many bytes a body has with the cell, its line and the body ended behind it
+-- how many bytes a body has with the cell, its line and the body ended after it
 abbrev pub ended_length : Spot → List ℕ → Value → ℕ
 ended_length spot body value =
     let marks = marks_of spot.layout in

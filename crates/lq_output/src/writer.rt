@@ -85,7 +85,7 @@ impl Writer {
         })
     }
 
-    /// Adds a cell to the open line. `TooLarge` where the body, with the open line ended behind the
+    /// Adds a cell to the open line. `TooLarge` where the body, with the open line ended after the
     /// cell, would have more than `BODY_LIMIT` bytes; else the only error is `Memory`.
     pub fn cell(&mut self, value: &Val<'_>) -> Result<(), WriteErr>
         ensures ok { OnOk result (self.new ≡ with_cell self.old (meaning_of value.now)) }
@@ -247,7 +247,7 @@ impl Writer {
     }
 }
 
-/// Adds a number to a body that has room for it and for the bytes that end the body behind it.
+/// Adds a number to a body that has room for it and for the bytes that end the body after it.
 /// After an error the body is as it was.
 #[inline(always)]
 fn push_number_at(body: &mut Vec<u8>, spot: Spot, number: i128) -> Result<(), WriteErr>
@@ -315,8 +315,8 @@ fn push_apart(
     keep_fitting(body, start, spot.layout)
 }
 
-/// Takes what was added to a body behind a place away again, where the body has no room for it and
-/// for the bytes that end the body behind it.
+/// Takes what was added to a body after a place away again, where the body has no room for it and
+/// for the bytes that end the body after it.
 #[inline]
 fn keep_fitting(body: &mut Vec<u8>, start: usize, layout: Layout) -> Result<(), WriteErr>
     requires { start ≤ length body.old.items }

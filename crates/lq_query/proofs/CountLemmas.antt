@@ -30,7 +30,7 @@ use Rattle.lq_query.specs.Counting.{Counts, counted_from}
 use Rattle.lq_query.specs.Groups.{number_cell, stat_cell, stat_kind, stats_row}
 use Rattle.lq_query.specs.Rows.{chosen_rows, row_cells}
 
--- ---- one row behind the other
+-- ---- one row after the other
 
 pub counts_none : (groups : Grouped) → groups.next ≡ [] → Counts groups groups []
 counts_none groups next = record {

@@ -19,7 +19,7 @@ use Rattle.lq_query.specs.Answer.{first_lines}
 use Rattle.lq_query.specs.Rows.{chosen_rows, row_cells}
 use Rattle.lq_query.specs.Lines.{AddsCells, AreTooLarge, HasLines, IsTooLarge, first_rows, rows_with_marks}
 
--- ---- lines one behind the other
+-- ---- lines one after the other
 
 -- no lines
 pub no_lines : (w : Writing) → HasLines w w []
@@ -34,7 +34,7 @@ HasLines-then old mid new front back first second = record {
   written = λ before is. subst (λ lines. Writes new lines []) (append_assoc before front back) (second.written (before ++ front) (first.written before is));
 }
 
--- where lines behind others are too many, so are all of them
+-- where lines after others are too many, so are all of them
 pub IsTooLarge-then : (old mid : Writing) (front back rest : List (List Value)) → HasLines old mid front → IsTooLarge mid back → IsTooLarge old (front ++ (back ++ rest))
 IsTooLarge-then old mid front back rest first large before is more =
     let lines : (before ++ front) ++ (back ++ (rest ++ more)) ≡ before ++ ((front ++ (back ++ rest)) ++ more)
@@ -239,7 +239,7 @@ pub lines_all : {X : Type 0} (line : X → List Value) (rows : List X) (place : 
     → HasLines old new (map line (take place rows)) → HasLines old new (map line rows)
 lines_all line rows place old new all first = subst (λ those. HasLines old new (map line those)) (take_all place rows all) first
 
--- the lines of the rows that are left behind the first
+-- the lines of the rows that are left after the first
 rest_of : {X : Type 0} (line : X → List Value) (rows : List X) (count : ℕ)
     → map line (take count rows) ++ map line (take (length rows - count) (drop count rows)) ≡ map line rows
 rest_of line rows count =
@@ -379,7 +379,7 @@ limited_lines columns headers row_of rows None most none some =
 limited_lines columns headers row_of rows (Some count) most none some =
     ap (λ n. first_rows columns n (chosen_rows headers (map row_of rows))) some ∙ sym (take-map (row_cells columns) count (chosen_rows headers (map row_of rows)))
 
--- with further cells behind them too many cells stay too many
+-- with further cells after them too many cells stay too many
 pub AreTooLarge-front : (old : Writing) (cells later : List Value) → AreTooLarge old cells → AreTooLarge old (cells ++ later)
 AreTooLarge-front old cells later large before front is rest more =
     subst (λ (l : List Value). body_limit < length (body_text old.layout (before ++ (front ++ l) ∷ more))) (sym (append_assoc cells later rest)) (large before front is (later ++ rest) more)

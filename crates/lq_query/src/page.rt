@@ -20,7 +20,7 @@ use lq_tables::{Row, row_number, row_text};
 use std::alloc::Global;
 use std::slice::from_ref;
 
-/// How many rows are tested at once. More would keep those behind the last one that may be shown
+/// How many rows are tested at once. More would keep those after the last one that may be shown
 /// from being left alone, and fewer would turn from one test to the next too often.
 const BLOCK: usize = 512;
 

@@ -226,6 +226,8 @@ fn with_header(alloc: Global, body: Items<u8>) -> Result<Items<u8>, Memory>
     requires { length body ≤ body_limit }
     ensures { IfOk result (λ bytes. bytes ≡ with_fixed_header true body) }
 {
+    // One copy, since the length is known when the body is whole. Room for the line at the front of
+    // the body would make each clause on the body speak of 16 bytes that aren't its own.
     let mut bytes = Vec::with_capacity(alloc, body.len() + 16)?;
     bytes.extend_from_slice(&fixed16(OK, body.len() as u64))?;
     bytes.extend_from_slice(body.as_slice())?;

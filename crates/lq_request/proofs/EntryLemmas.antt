@@ -9,7 +9,7 @@ use Rattle.lq_request.specs.declared.entry.StatDraft.{StatDraft}
 use Rattle.lq_request.specs.declared.entry.StatDraft.TheVariants as draft
 use Rattle.lq_request.specs.declared.entry.StatEntry.{StatEntry}
 
--- an entry that is taken from the front and added behind those before it
+-- an entry that is taken from the front and added after those before it
 pub one_finished : (stats more : List StatEntry) (rest left : List StatDraft) (entry : StatDraft) (last : StatEntry) (all : List StatEntry)
     → more ≡ stats ++ last ∷ [] → last ≡ entry_of_draft entry → rest ≡ entry ∷ left → stats ++ map entry_of_draft rest ≡ all → more ++ map entry_of_draft left ≡ all
 one_finished stats more rest left entry last all pushed is taken before =
@@ -23,7 +23,7 @@ behind : (headers stack : List Header) (later : Option (List Header))
 behind headers stack None = refl
 behind headers stack (Some later) = ap Some (append_assoc headers stack later)
 
--- the headers of an entry that is taken from the front stand behind those before it
+-- the headers of an entry that is taken from the front stand after those before it
 pub one_counted : (headers more stack : List Header) (rest left : List StatDraft) (all : Option (List Header))
     → more ≡ headers ++ stack → rest ≡ draft.Count stack ∷ left → option_map (λ l. headers ++ l) (headers_of_counts rest) ≡ all
     → option_map (λ l. more ++ l) (headers_of_counts left) ≡ all

@@ -1,4 +1,4 @@
--- The filters that stand: one behind the other, and what a line makes of them.
+-- The filters that stand: one after the other, and what a line makes of them.
 use Rattle.std.proofs.Common.{◌≡◌, ℕ, ◌+◌, ◌<◌, ◌≤◌, Bool, true, false, None, List, [], ◌∷◌, ◌++◌, length, reverse, refl, sym, ap, ◌∙◌, append_assoc, arith}
 use Rattle.std.proofs.lemmas.List.{drop-append-le, length-append, length-drop, reverse-append, take-append-le}
 use Rattle.lq_filter.specs.Trees.{first_negated, tree_count, truths}
@@ -25,14 +25,14 @@ length-truths truth (header.Negate ∷ earlier) = length-first_negated (truths t
 -- ---- whole filters
 
 pub no_filters : AreWhole [] 0
-no_filters = record { trees = refl; behind = λ truth before. refl }
+no_filters = record { trees = refl; after = λ truth before. refl }
 
 pub one_test : (test : Test) → IsFilter (header.Test test ∷ [])
-one_test test = record { trees = refl; behind = λ truth before. refl }
+one_test test = record { trees = refl; after = λ truth before. refl }
 
 module _ (first second : List Header) (n m : ℕ) (one : AreWhole first n) (two : AreWhole second m) where
   pub both_trees : (truth : Test → Bool) → truths truth (reverse (first ++ second)) ≡ truths truth (reverse second) ++ truths truth (reverse first)
-  both_trees truth = ap (truths truth) (reverse-append first second) ∙ two.behind truth (reverse first)
+  both_trees truth = ap (truths truth) (reverse-append first second) ∙ two.after truth (reverse first)
 
   pub both_whole : AreWhole (first ++ second) (n + m)
   both_whole = record {
@@ -48,11 +48,11 @@ module _ (first second : List Header) (n m : ℕ) (one : AreWhole first n) (two 
           length-truths always (reverse second),
           length-truths always (reverse first),
         );
-    behind = λ truth before.
+    after = λ truth before.
         ap (λ headers. truths truth (headers ++ before)) (reverse-append first second)
         ∙ ap (truths truth) (append_assoc (reverse second) (reverse first) before)
-        ∙ two.behind truth (reverse first ++ before)
-        ∙ ap (λ trees. truths truth (reverse second) ++ trees) (one.behind truth before)
+        ∙ two.after truth (reverse first ++ before)
+        ∙ ap (λ trees. truths truth (reverse second) ++ trees) (one.after truth before)
         ∙ sym (append_assoc (truths truth (reverse second)) (truths truth (reverse first)) (truths truth before))
         ∙ ap (λ trees. trees ++ truths truth before) (sym (both_trees truth));
   }
@@ -63,10 +63,10 @@ last_first headers last = reverse-append headers (last ∷ [])
 pub joined_whole : (headers : List Header) (count : ℕ) (any : Bool) → AreWhole headers count → IsFilter (headers ++ header.Join (record { count = count; any = any }) ∷ [])
 joined_whole headers count any whole = record {
   trees = height_joined headers count any whole.trees;
-  behind = λ truth before.
+  after = λ truth before.
       let own : List Bool = truths truth (reverse headers) in
       let enough : count ≤ length own = omega (arith, whole.trees, length-truths truth (reverse headers)) in
-      rw (last_first headers (header.Join (record { count = count; any = any })), whole.behind truth before, take-append-le count own (truths truth before) enough, drop-append-le count own (truths truth before) enough) refl;
+      rw (last_first headers (header.Join (record { count = count; any = any })), whole.after truth before, take-append-le count own (truths truth before) enough, drop-append-le count own (truths truth before) enough) refl;
 }
 
 first_negated-append : (trees before : List Bool) → 0 < length trees → first_negated (trees ++ before) ≡ first_negated trees ++ before
@@ -76,10 +76,10 @@ first_negated-append (truth ∷ trees) before some = refl
 pub negated_whole : (headers : List Header) → IsFilter headers → IsFilter (headers ++ header.Negate ∷ [])
 negated_whole headers whole = record {
   trees = height_negated headers ∙ whole.trees;
-  behind = λ truth before.
+  after = λ truth before.
       let own : List Bool = truths truth (reverse headers) in
       let enough : 0 < length own = omega (arith, whole.trees, length-truths truth (reverse headers)) in
-      rw (last_first headers header.Negate, whole.behind truth before) (first_negated-append own (truths truth before) enough);
+      rw (last_first headers header.Negate, whole.after truth before) (first_negated-append own (truths truth before) enough);
 }
 
 -- ---- what a group says of a time

@@ -192,7 +192,7 @@ both_true : (a b : Bool) → (a && b) ≡ true → (a ≡ true) × (b ≡ true)
 both_true true b is = (refl, is)
 both_true false b is = absurd (false≢true is)
 
--- two filters one behind the other hold where each does
+-- two filters one after the other hold where each does
 both_hold : (truth : Test → Bool) (first second : List Header) (n m : ℕ) → AreWhole first n → AreWhole second m → holds truth (first ++ second) ≡ true
     → (holds truth first ≡ true) × (holds truth second ≡ true)
 both_hold truth first second n m one two met =

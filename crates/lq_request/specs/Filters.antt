@@ -109,10 +109,10 @@ patterns_with patterns test =
 
 -- ---- the filters that stand, each by its headers
 
--- headers are so many filters: behind any others they add their own truths, and take none
+-- headers are so many filters: after any others they add their own truths, and take none
 pub record AreWhole (headers : List Header) (count : ℕ) : Type 0 where
   pub trees : height headers ≡ count
-  pub behind : (truth : Test → Bool) (before : List Header) →
+  pub after : (truth : Test → Bool) (before : List Header) →
       truths truth (reverse headers ++ before)
       ≡ truths truth (reverse headers) ++ truths truth before
 
@@ -135,7 +135,7 @@ last_filters name filters count =
     else if has_history_time (latest filters count) then Err reason.TimeFilterInGroup
     else Ok (headers_of (latest filters count))
 
--- the last filters become one, which has their headers and behind them one more
+-- the last filters become one, which has their headers and after them one more
 abbrev pub with_last_as_one : List (List Header) → ℕ → Header → Result (List Header) Reason
     → Result (List (List Header)) Reason
 with_last_as_one filters count last (Err fault) = Err fault

@@ -10,8 +10,8 @@ use Rattle.lq_schema.specs.declared.line.LineColumn.TheVariants as line
 use Rattle.lq_filter.specs.Trees.{holds, truth_on}
 use Rattle.lq_request.specs.Request.{Refused}
 use Rattle.lq_request.specs.declared.reason.Reason.{Reason}
-use Rattle.lq_request.specs.declared.fault.Fault.{Fault}
-use Rattle.lq_request.specs.declared.fault.Fault.TheVariants as fault
+use Rattle.lq_request.specs.declared.header_err.HeaderErr.{HeaderErr}
+use Rattle.lq_request.specs.declared.header_err.HeaderErr.TheVariants as header_err
 use Rattle.lq_request.specs.declared.request.Request.{Request}
 use Rattle.lq_request.specs.declared.request.ReadErr.{ReadErr}
 use Rattle.lq_request.specs.declared.request.ReadErr.TheVariants as error
@@ -58,13 +58,13 @@ FixesNoName request = (request.names.own ≡ [])
     × (request.names.host ≡ []) × (request.names.service ≡ [])
 
 -- the same of a part of a message, which tells the reason alone
-abbrev pub Finds : {X : Type 0} → Result X Fault → Result X Reason → Type 0
+abbrev pub Finds : {X : Type 0} → Result X HeaderErr → Result X Reason → Type 0
 Finds (Ok found) part = part ≡ Ok found
-Finds (Err (fault.Refused reason)) part = part ≡ Err reason
-Finds (Err fault.Memory) part = Unit {0}
+Finds (Err (header_err.Refused reason)) part = part ≡ Err reason
+Finds (Err header_err.Memory) part = Unit {0}
 
 -- the same of a change: where it went well, it leaves what the definition says
-abbrev pub Leaves : {X : Type 0} → Result Unit Fault → X → Result X Reason → Type 0
+abbrev pub Leaves : {X : Type 0} → Result Unit HeaderErr → X → Result X Reason → Type 0
 Leaves (Ok done) left part = part ≡ Ok left
-Leaves (Err (fault.Refused reason)) left part = part ≡ Err reason
-Leaves (Err fault.Memory) left part = Unit {0}
+Leaves (Err (header_err.Refused reason)) left part = part ≡ Err reason
+Leaves (Err header_err.Memory) left part = Unit {0}

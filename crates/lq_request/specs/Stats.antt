@@ -114,7 +114,7 @@ last_counted name entries count =
     then ok_or (headers_of_counts (latest entries count)) (reason.AggregateIn name)
     else Err (reason.StackTooShort name)
 
--- the last entries become one, whose filter has the headers of theirs and behind them one more
+-- the last entries become one, whose filter has the headers of theirs and after them one more
 abbrev pub with_last :
     List StatDraft → ℕ → Header → Result (List Header) Reason → Result (List StatDraft) Reason
 with_last entries count last (Err fault) = Err fault

@@ -10,7 +10,8 @@ use lq_records::Memory;
 use std::alloc::Global;
 use std::marker::Model;
 
-/// The longest message in bytes, with the empty lines before it and the empty line that ends it.
+/// The longest message in bytes, with the empty lines before it and the empty line that ends it. A
+/// longer one is refused.
 pub const MESSAGE_LIMIT: usize = 65_536;
 
 /// The most bytes that are held: one more than a message may have shows that the bytes go on past

@@ -8,7 +8,7 @@ ghost use Rattle.lq_request.specs.Stats.{IsAggregate, IsEntry, IsStat, headers_o
 ghost use Rattle.lq_request.specs.Stats.{entry_of_draft};
 ghost use Rattle.lq_request.specs.Stats.{last_counted, with_joined, with_negated};
 
-use crate::fault::Fault;
+use crate::header_err::HeaderErr;
 use crate::reason::Reason;
 use lq_filter::{Filter, Stack, StackErr, Test};
 use lq_records::{Items, Memory, Text};
@@ -111,44 +111,50 @@ impl Entries {
     /// Makes the last entries one that counts: where `any`, one of their filters is enough, else
     /// all have to hold. The header with this name asks for it. On an error nothing is said of the
     /// entries, since the query is given up.
-    pub fn join(&mut self, alloc: Global, name: &str, any: bool, count: u64) -> Result<(), Fault>
+    pub fn join(
+        &mut self,
+        alloc: Global,
+        name: &str,
+        any: bool,
+        count: u64,
+    ) -> Result<(), HeaderErr>
         ensures { Leaves result self.new (with_joined name.now any self.old count) }
     {
         let mut stack = self.cut_off(alloc, name, count)?;
         match stack.join(count, any) {
             Ok(()) => Ok(self.push_stack(stack)?),
             Err(StackErr::TooShort) => unreachable!(),
-            Err(StackErr::Memory) => Err(Fault::Memory),
+            Err(StackErr::Memory) => Err(HeaderErr::Memory),
         }
     }
 
     /// Makes the last entry count the rows that it doesn't. The header with this name asks for it.
     /// On an error nothing is said of the entries.
-    pub fn negate(&mut self, alloc: Global, name: &str) -> Result<(), Fault>
+    pub fn negate(&mut self, alloc: Global, name: &str) -> Result<(), HeaderErr>
         ensures { Leaves result self.new (with_negated name.now self.old) }
     {
         let mut stack = self.cut_off(alloc, name, 1)?;
         match stack.negate() {
             Ok(()) => Ok(self.push_stack(stack)?),
             Err(StackErr::TooShort) => unreachable!(),
-            Err(StackErr::Memory) => Err(Fault::Memory),
+            Err(StackErr::Memory) => Err(HeaderErr::Memory),
         }
     }
 
     /// Cuts the last so many entries off, and gives the headers of their filters.
-    fn cut_off(&mut self, alloc: Global, name: &str, count: u64) -> Result<Stack, Fault>
+    fn cut_off(&mut self, alloc: Global, name: &str, count: u64) -> Result<Stack, HeaderErr>
         ensures headers { Finds result (last_counted name.now self.old count) }
         ensures left { OnOk result (self.new ≡ earlier self.old count) }
         ensures trees { IfOk result (λ headers. height headers ≡ count) }
         ensures some { OnOk result (0 < count) }
     {
         if count == 0 || count > self.inner.len() as u64 {
-            return Err(Fault::Refused(Reason::StackTooShort(Text::new(alloc, name)?)));
+            return Err(HeaderErr::Refused(Reason::StackTooShort(Text::new(alloc, name)?)));
         }
         let latest = self.inner.split_off(self.inner.len() - count as usize)?;
         match headers_of_counts(alloc, latest)? {
             Some(stack) => Ok(stack),
-            None => Err(Fault::Refused(Reason::AggregateIn(Text::new(alloc, name)?))),
+            None => Err(HeaderErr::Refused(Reason::AggregateIn(Text::new(alloc, name)?))),
         }
     }
 

@@ -4,8 +4,8 @@ ghost use Rattle.lq_request.specs.Filters.{patterns_with, test_of, test_words};
 ghost use Rattle.lq_request.specs.Headers.{with_join_value, with_negation, with_test_value};
 ghost use Rattle.lq_request.specs.Reading.{Finds, Leaves};
 
-use crate::fault::Fault;
 use crate::header::Draft;
+use crate::header_err::HeaderErr;
 use crate::number::number_value;
 use crate::reason::Reason;
 use crate::words::{split_word, without_end, without_front};
@@ -54,11 +54,11 @@ impl<'a> TestWords<'a> {
 
     /// The test that the words of a `Filter` line say on a table, whose header has this name. The
     /// time of a history can't be excluded by `!=`.
-    fn filter(&self, alloc: Global, table: Table, name: &str) -> Result<Test, Fault>
+    fn filter(&self, alloc: Global, table: Table, name: &str) -> Result<Test, HeaderErr>
         ensures { Finds result (filter_test table name.now self.now) }
     {
         if self.excludes_time(table) {
-            return Err(Fault::Refused(Reason::NotAllowed(Text::new(alloc, self.column)?)));
+            return Err(HeaderErr::Refused(Reason::NotAllowed(Text::new(alloc, self.column)?)));
         }
         self.test(alloc, table, name)
     }
@@ -71,14 +71,14 @@ impl<'a> TestWords<'a> {
     }
 
     /// The test that the words of the header with this name say on a table.
-    fn test(&self, alloc: Global, table: Table, name: &str) -> Result<Test, Fault>
+    fn test(&self, alloc: Global, table: Table, name: &str) -> Result<Test, HeaderErr>
         ensures { Finds result (test_of table name.now self.now) }
     {
         if self.operator.is_empty() {
-            return Err(Fault::Refused(Reason::BadValue(Text::new(alloc, name)?)));
+            return Err(HeaderErr::Refused(Reason::BadValue(Text::new(alloc, name)?)));
         }
         let Some(column) = column(table, self.column) else {
-            return Err(Fault::Refused(Reason::UnknownColumn(Text::new(alloc, self.column)?)));
+            return Err(HeaderErr::Refused(Reason::UnknownColumn(Text::new(alloc, self.column)?)));
         };
         let reason = match Test::read(alloc, column, self.operator, self.operand) {
             Ok(test) => return Ok(test),
@@ -88,14 +88,14 @@ impl<'a> TestWords<'a> {
                 Reason::NotNumber(Text::new(alloc, without_end(self.operand))?)
             }
             Err(TestErr::BadPattern) => Reason::BadPattern,
-            Err(TestErr::Memory) => return Err(Fault::Memory),
+            Err(TestErr::Memory) => return Err(HeaderErr::Memory),
         };
-        Err(Fault::Refused(reason))
+        Err(HeaderErr::Refused(reason))
     }
 }
 
 /// The test that the value of a header says on a table.
-pub fn test_value(alloc: Global, table: Table, name: &str, value: &str) -> Result<Test, Fault>
+pub fn test_value(alloc: Global, table: Table, name: &str, value: &str) -> Result<Test, HeaderErr>
     ensures { Finds result (test_of table name.now (test_words value.now)) }
 {
     TestWords::of(value).test(alloc, table, name)
@@ -115,7 +115,7 @@ fn is_slice_time(column: Option<Col>) -> bool
 }
 
 /// How many patterns a query has with one more test.
-pub fn patterns_with(patterns: usize, test: &Test) -> Result<usize, Fault>
+pub fn patterns_with(patterns: usize, test: &Test) -> Result<usize, HeaderErr>
     ensures { Finds result (patterns_with patterns test.now) }
 {
     if !test.has_pattern() {
@@ -124,13 +124,18 @@ pub fn patterns_with(patterns: usize, test: &Test) -> Result<usize, Fault>
     if patterns < MOST_PATTERNS {
         Ok(patterns + 1)
     } else {
-        Err(Fault::Refused(Reason::TooManyPatterns))
+        Err(HeaderErr::Refused(Reason::TooManyPatterns))
     }
 }
 
 impl Draft {
     /// Adds the test of a `Filter` line.
-    pub(crate) fn add_test(&mut self, alloc: Global, name: &str, value: &str) -> Result<(), Fault>
+    pub(crate) fn add_test(
+        &mut self,
+        alloc: Global,
+        name: &str,
+        value: &str,
+    ) -> Result<(), HeaderErr>
         ensures { Leaves result self.new (with_test_value name.now value.now self.old) }
     {
         let test = TestWords::of(value).filter(alloc, self.request.table, name)?;
@@ -146,7 +151,7 @@ impl Draft {
         name: &str,
         any: bool,
         value: &str,
-    ) -> Result<(), Fault>
+    ) -> Result<(), HeaderErr>
         ensures { Leaves result self.new (with_join_value name.now any value.now self.old) }
     {
         let count = number_value(alloc, name, value)?;
@@ -154,7 +159,7 @@ impl Draft {
     }
 
     /// Makes the last filter its opposite.
-    pub(crate) fn negate(&mut self, alloc: Global, name: &str) -> Result<(), Fault>
+    pub(crate) fn negate(&mut self, alloc: Global, name: &str) -> Result<(), HeaderErr>
         ensures { Leaves result self.new (with_negation name.now self.old) }
     {
         self.filters.negate(alloc, name)

@@ -5,7 +5,7 @@ ghost use Rattle.lq_request.specs.Reading.{Finds, Leaves};
 ghost use Rattle.lq_request.specs.Window.{bounds_of, filter_bounds, filter_time, has_history_time};
 ghost use Rattle.lq_request.specs.Window.{headers_of, is_tested, row_headers};
 
-use crate::fault::Fault;
+use crate::header_err::HeaderErr;
 use crate::reason::Reason;
 use crate::time::{TimeBounds, TimeTest};
 use lq_filter::{Filter, Stack, StackErr, Test};
@@ -123,7 +123,13 @@ impl Filters {
     /// Makes the last filters one: where `any`, one of them is enough, else all have to hold. The
     /// header with this name asks for it. On an error nothing is said of the filters, since the
     /// query is given up.
-    pub fn join(&mut self, alloc: Global, name: &str, any: bool, count: u64) -> Result<(), Fault>
+    pub fn join(
+        &mut self,
+        alloc: Global,
+        name: &str,
+        any: bool,
+        count: u64,
+    ) -> Result<(), HeaderErr>
         ensures { Leaves result self.new (with_group name.now self.old count
             (header.Join (record { count = count; any = any }))) }
     {
@@ -131,41 +137,41 @@ impl Filters {
         match headers.join(count, any) {
             Ok(()) => Ok(self.push_group(headers)?),
             Err(StackErr::TooShort) => unreachable!(),
-            Err(StackErr::Memory) => Err(Fault::Memory),
+            Err(StackErr::Memory) => Err(HeaderErr::Memory),
         }
     }
 
     /// Makes the last filter its opposite. The header with this name asks for it. On an error
     /// nothing is said of the filters.
-    pub fn negate(&mut self, alloc: Global, name: &str) -> Result<(), Fault>
+    pub fn negate(&mut self, alloc: Global, name: &str) -> Result<(), HeaderErr>
         ensures { Leaves result self.new (with_group name.now self.old 1 header.Negate) }
     {
         let mut headers = self.cut_off(alloc, name, 1)?;
         match headers.negate() {
             Ok(()) => Ok(self.push_group(headers)?),
             Err(StackErr::TooShort) => unreachable!(),
-            Err(StackErr::Memory) => Err(Fault::Memory),
+            Err(StackErr::Memory) => Err(HeaderErr::Memory),
         }
     }
 
     /// Cuts the last so many filters off, and gives their headers.
-    fn cut_off(&mut self, alloc: Global, name: &str, count: u64) -> Result<Stack, Fault>
+    fn cut_off(&mut self, alloc: Global, name: &str, count: u64) -> Result<Stack, HeaderErr>
         ensures headers { Finds result (last_filters name.now self.old count) }
         ensures left { OnOk result (self.new ≡ earlier self.old count) }
         ensures whole { IfOk result (λ headers. AreWhole headers count) }
         ensures some { OnOk result (0 < count) }
     {
         if count == 0 || count > self.inner.len() as u64 {
-            return Err(Fault::Refused(Reason::StackTooShort(Text::new(alloc, name)?)));
+            return Err(HeaderErr::Refused(Reason::StackTooShort(Text::new(alloc, name)?)));
         }
         let latest = self.inner.split_off(self.inner.len() - count as usize)?;
         if has_history_time(&latest) {
-            return Err(Fault::Refused(Reason::TimeFilterInGroup));
+            return Err(HeaderErr::Refused(Reason::TimeFilterInGroup));
         }
         Ok(headers_of(alloc, latest)?)
     }
 
-    /// Adds the filter that a header behind others makes of them.
+    /// Adds the filter that a header after others makes of them.
     fn push_group(&mut self, headers: Stack) -> Result<(), Memory>
         requires filter { IsFilter headers }
         requires group { filter_time headers ≡ None }

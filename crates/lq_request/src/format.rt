@@ -3,7 +3,7 @@ ghost use Rattle.lq_request.specs.Formats.{byte_read, format_of, format_value};
 ghost use Rattle.lq_request.specs.Formats.{separators_of, separators_value};
 ghost use Rattle.lq_request.specs.Reading.{Finds};
 
-use crate::fault::{Fault, well_formed};
+use crate::header_err::{HeaderErr, well_formed};
 use crate::number::natural;
 use crate::words::words_of;
 use lq_records::{Format, Separators};
@@ -11,7 +11,7 @@ use lq_text::trim;
 use std::alloc::Global;
 
 /// The format that the value of a header says.
-pub fn format_value(alloc: Global, name: &str, value: &str) -> Result<Format, Fault>
+pub fn format_value(alloc: Global, name: &str, value: &str) -> Result<Format, HeaderErr>
     ensures { Finds result (format_value name.now value.now) }
 {
     well_formed(alloc, name, format_of(trim(value.as_bytes())))
@@ -32,7 +32,7 @@ fn format_of(word: &[u8]) -> Option<Format>
 }
 
 /// The separators that the value of a header says.
-pub fn separators_value(alloc: Global, name: &str, value: &str) -> Result<Separators, Fault>
+pub fn separators_value(alloc: Global, name: &str, value: &str) -> Result<Separators, HeaderErr>
     ensures { Finds result (separators_value name.now value.now) }
 {
     let words = words_of(alloc, value.as_bytes())?;

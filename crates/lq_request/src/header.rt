@@ -8,9 +8,9 @@ ghost use Rattle.lq_request.specs.Reading.{Finds, Leaves};
 ghost use Rattle.lq_request.specs.Style.{is_colon};
 
 use crate::entry::Entries;
-use crate::fault::{Fault, well_formed};
 use crate::filters::Filters;
 use crate::format::{format_value, separators_value};
+use crate::header_err::{HeaderErr, well_formed};
 use crate::number::number_value;
 use crate::reason::Reason;
 use crate::request::Request;
@@ -44,8 +44,10 @@ pub struct Draft {
 impl Draft {
     /// Adds what one more header says. `ResponseHeader` and `KeepAlive` leave all as it was, since
     /// the style speaks of them, and so do `Localtime` and `Timelimit`, which say nothing.
+    // Headers are no enum of their own: each would have two more places there, and an arm here says
+    // its name, its value and its field already.
     #[tactic(auto, unfolding(crate::specs::Headers::with_header))]
-    fn add(&mut self, alloc: Global, name: &str, value: &str) -> Result<(), Fault>
+    fn add(&mut self, alloc: Global, name: &str, value: &str) -> Result<(), HeaderErr>
         ensures { Leaves result self.new (with_header name.now value.now self.old) }
     {
         match name {
@@ -75,13 +77,13 @@ impl Draft {
             "Localtime" | "Timelimit" => {
                 number_value(alloc, name, value)?;
             }
-            _ => return Err(Fault::Refused(Reason::UnknownHeader(Text::new(alloc, name)?))),
+            _ => return Err(HeaderErr::Refused(Reason::UnknownHeader(Text::new(alloc, name)?))),
         }
         Ok(())
     }
 
     /// Adds the columns that a value names.
-    fn add_columns(&mut self, alloc: Global, name: &str, value: &str) -> Result<(), Fault>
+    fn add_columns(&mut self, alloc: Global, name: &str, value: &str) -> Result<(), HeaderErr>
         ensures { Leaves result self.new (with_columns name.now value.now self.old) }
     {
         let more = columns_value(alloc, self.request.table, name, value)?;
@@ -90,26 +92,26 @@ impl Draft {
     }
 
     /// Adds the header of a line, by the line's number from 1.
-    fn add_line(&mut self, alloc: Global, number: usize, line: &[u8]) -> Result<(), Fault>
+    fn add_line(&mut self, alloc: Global, number: usize, line: &[u8]) -> Result<(), HeaderErr>
         ensures { Leaves result self.new (with_line number line.now self.old) }
     {
         if !is_text(line) {
-            return Err(Fault::Refused(Reason::NotUtf8));
+            return Err(HeaderErr::Refused(Reason::NotUtf8));
         }
         if number > MOST_HEADERS {
-            return Err(Fault::Refused(Reason::TooManyHeaders));
+            return Err(HeaderErr::Refused(Reason::TooManyHeaders));
         }
         self.add_parts(alloc, line)
     }
 
     /// Adds the header of a line, whose name goes up to its first colon.
-    fn add_parts(&mut self, alloc: Global, line: &[u8]) -> Result<(), Fault>
+    fn add_parts(&mut self, alloc: Global, line: &[u8]) -> Result<(), HeaderErr>
         requires { IsUtf8 line.now }
         ensures { Leaves result self.new
             (with_header_at line.now (position is_colon line.now) self.old) }
     {
         let Some(colon) = colon_place(line) else {
-            return Err(Fault::Refused(Reason::NoColon));
+            return Err(HeaderErr::Refused(Reason::NoColon));
         };
         let name = as_text(&line[..colon]);
         let value = as_text(&line[colon + 1..]);
@@ -127,8 +129,8 @@ fn push_all(alloc: Global, columns: &mut Items<Col>, more: &[Col]) -> Result<(),
 }
 
 /// What header lines say beside a draft, up to the first empty one, or the reason of the first line
-/// with a fault.
-pub fn header_lines(alloc: Global, draft: Draft, bytes: &[u8]) -> Result<Draft, Fault>
+/// that can't be read.
+pub fn header_lines(alloc: Global, draft: Draft, bytes: &[u8]) -> Result<Draft, HeaderErr>
     ensures { Finds result (header_lines 1 (lines_of bytes.now) draft) }
 {
     let mut draft = draft;
@@ -147,25 +149,30 @@ pub fn header_lines(alloc: Global, draft: Draft, bytes: &[u8]) -> Result<Draft, 
 }
 
 /// What the value of a switch says, by the word that turns it on.
-fn switch(alloc: Global, on: &str, name: &str, value: &str) -> Result<bool, Fault>
+fn switch(alloc: Global, on: &str, name: &str, value: &str) -> Result<bool, HeaderErr>
     ensures { Finds result (switch on.now name.now value.now) }
 {
     well_formed(alloc, name, switch_value(on, value.as_bytes()))
 }
 
 /// The columns that a value names, in order.
-fn columns_value(alloc: Global, table: Table, name: &str, value: &str) -> Result<Items<Col>, Fault>
+fn columns_value(
+    alloc: Global,
+    table: Table,
+    name: &str,
+    value: &str,
+) -> Result<Items<Col>, HeaderErr>
     ensures { Finds result (columns_value table name.now value.now) }
 {
     let words = words_of(alloc, value.as_bytes())?;
     if words.is_empty() {
-        return Err(Fault::Refused(Reason::BadValue(Text::new(alloc, name)?)));
+        return Err(HeaderErr::Refused(Reason::BadValue(Text::new(alloc, name)?)));
     }
     columns_of_words(alloc, table, &words)
 }
 
 /// The columns that words name, or the reason of the first word that names none.
-fn columns_of_words(alloc: Global, table: Table, words: &[&[u8]]) -> Result<Items<Col>, Fault>
+fn columns_of_words(alloc: Global, table: Table, words: &[&[u8]]) -> Result<Items<Col>, HeaderErr>
     requires { AllByRecursion IsUtf8 (map (λ word. word.now) words.now) }
     ensures { Finds result (columns_of_words table (map (λ word. word.now) words.now)) }
 {
@@ -173,7 +180,7 @@ fn columns_of_words(alloc: Global, table: Table, words: &[&[u8]]) -> Result<Item
     for word in words {
         let word = as_text(word);
         let Some(column) = column(table, word) else {
-            return Err(Fault::Refused(Reason::UnknownColumn(Text::new(alloc, word)?)));
+            return Err(HeaderErr::Refused(Reason::UnknownColumn(Text::new(alloc, word)?)));
         };
         columns.push(alloc, column)?;
     }

@@ -12,9 +12,9 @@ ghost use Rattle.lq_request.specs.Request.{table_of_words};
 ghost use Rattle.lq_request.specs.Stats.{IsStat};
 
 use crate::entry::{Entries, StatEntry};
-use crate::fault::Fault;
 use crate::filters::Filters;
 use crate::header::{Draft, header_lines};
+use crate::header_err::HeaderErr;
 use crate::reason::Reason;
 use crate::style::{Style, reply_style};
 use crate::time::Interval;
@@ -116,7 +116,7 @@ pub fn read_request(alloc: Global, b: &[u8], _base: &Base) -> Result<Request, Re
     let style = reply_style(b);
     match asked_in(alloc, style, b) {
         Ok(request) => Ok(request),
-        Err(Fault::Refused(reason)) => match reason.refusal(alloc) {
+        Err(HeaderErr::Refused(reason)) => match reason.refusal(alloc) {
             Ok(refusal) => Err(ReadErr::Refused {
                 refusal,
                 fixed16: style.fixed16,
@@ -124,13 +124,13 @@ pub fn read_request(alloc: Global, b: &[u8], _base: &Base) -> Result<Request, Re
             }),
             Err(AllocError) => Err(ReadErr::Memory),
         },
-        Err(Fault::Memory) => Err(ReadErr::Memory),
+        Err(HeaderErr::Memory) => Err(ReadErr::Memory),
     }
 }
 
 /// What a message asks, replied to in a style.
 #[tactic(auto, unfolding(crate::specs::Request::asked_in))]
-fn asked_in(alloc: Global, style: Style, message: &[u8]) -> Result<Request, Fault>
+fn asked_in(alloc: Global, style: Style, message: &[u8]) -> Result<Request, HeaderErr>
     ensures asked { Finds result (asked_in style message.now) }
     ensures stats { IfOk result (λ request. All IsStat request.stats) }
     ensures cells { IfOk result ShowsCells }
@@ -140,14 +140,14 @@ fn asked_in(alloc: Global, style: Style, message: &[u8]) -> Result<Request, Faul
     ensures names { IfOk result FixesNoName }
 {
     let Some((end, next)) = next_line(message, 0) else {
-        return Err(Fault::Refused(Reason::InvalidRequest));
+        return Err(HeaderErr::Refused(Reason::InvalidRequest));
     };
     let table = first_line(alloc, &message[..end])?;
     asked_headers(alloc, plain(alloc, style, table), &message[next..])
 }
 
 /// What header lines ask beside a draft.
-fn asked_headers(alloc: Global, draft: Draft, bytes: &[u8]) -> Result<Request, Fault>
+fn asked_headers(alloc: Global, draft: Draft, bytes: &[u8]) -> Result<Request, HeaderErr>
     ensures asked { Finds result (asked_headers (header_lines 1 (lines_of bytes.now) draft)) }
     ensures stats { IfOk result (λ request. All IsStat request.stats) }
     ensures cells { IfOk result ShowsCells }
@@ -182,42 +182,42 @@ fn plain(alloc: Global, style: Style, table: Table) -> Draft
 }
 
 /// The table that a message's first line asks.
-fn first_line(alloc: Global, line: &[u8]) -> Result<Table, Fault>
+fn first_line(alloc: Global, line: &[u8]) -> Result<Table, HeaderErr>
     ensures { Finds result (first_line line.now) }
 {
     if !is_text(line) {
-        return Err(Fault::Refused(Reason::NotUtf8));
+        return Err(HeaderErr::Refused(Reason::NotUtf8));
     }
     let words = words_of(alloc, line)?;
     let Some((get, more)) = words.split_first() else {
-        return Err(Fault::Refused(Reason::InvalidRequest));
+        return Err(HeaderErr::Refused(Reason::InvalidRequest));
     };
     if *get != b"GET".as_slice() {
-        return Err(Fault::Refused(Reason::InvalidRequest));
+        return Err(HeaderErr::Refused(Reason::InvalidRequest));
     }
     table_of_words(alloc, more)
 }
 
 /// The table that the words after `GET` name.
-fn table_of_words(alloc: Global, words: &[&[u8]]) -> Result<Table, Fault>
+fn table_of_words(alloc: Global, words: &[&[u8]]) -> Result<Table, HeaderErr>
     requires { AllByRecursion IsUtf8 (map (λ word. word.now) words.now) }
     ensures { Finds result (table_of_words (map (λ word. word.now) words.now)) }
 {
     let Some((word, more)) = words.split_first() else {
-        return Err(Fault::Refused(Reason::MissingTable));
+        return Err(HeaderErr::Refused(Reason::MissingTable));
     };
     let word = as_text(word);
     let Some(table) = table(word) else {
-        return Err(Fault::Refused(Reason::UnknownTable(Text::new(alloc, word)?)));
+        return Err(HeaderErr::Refused(Reason::UnknownTable(Text::new(alloc, word)?)));
     };
     match more.split_first() {
         None => Ok(table),
-        Some(_) => Err(Fault::Refused(Reason::ExtraWords)),
+        Some(_) => Err(HeaderErr::Refused(Reason::ExtraWords)),
     }
 }
 
 /// The request of a query that is read whole, or why it is refused after all.
-fn request_of_draft(alloc: Global, draft: Draft) -> Result<Request, Fault>
+fn request_of_draft(alloc: Global, draft: Draft) -> Result<Request, HeaderErr>
     ensures same { Finds result (request_of_draft draft) }
     ensures stats { IfOk result (λ request. All IsStat request.stats) }
     ensures cells { IfOk result ShowsCells }

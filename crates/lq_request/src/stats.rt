@@ -9,9 +9,9 @@ ghost use Rattle.lq_schema.specs.Kinds.{own_kind};
 ghost use Rattle.lq_schema.specs.Schema.{column_of};
 
 use crate::aggregate::Aggregate;
-use crate::fault::Fault;
 use crate::filter::{patterns_with, test_value};
 use crate::header::Draft;
+use crate::header_err::HeaderErr;
 use crate::number::number_value;
 use crate::reason::Reason;
 use crate::words::{as_text, words_of};
@@ -22,7 +22,12 @@ use std::alloc::Global;
 
 impl Draft {
     /// Adds the entry of a `Stats` line.
-    pub(crate) fn add_stats(&mut self, alloc: Global, name: &str, value: &str) -> Result<(), Fault>
+    pub(crate) fn add_stats(
+        &mut self,
+        alloc: Global,
+        name: &str,
+        value: &str,
+    ) -> Result<(), HeaderErr>
         ensures { Leaves result self.new (with_stats_value name.now value.now self.old) }
     {
         let words = words_of(alloc, value.as_bytes())?;
@@ -39,7 +44,7 @@ impl Draft {
         name: &str,
         any: bool,
         value: &str,
-    ) -> Result<(), Fault>
+    ) -> Result<(), HeaderErr>
         ensures { Leaves result self.new (with_stats_join name.now any value.now self.old) }
     {
         let count = number_value(alloc, name, value)?;
@@ -47,7 +52,7 @@ impl Draft {
     }
 
     /// Adds an entry that counts the rows of a test.
-    fn add_count(&mut self, alloc: Global, test: Test) -> Result<(), Fault>
+    fn add_count(&mut self, alloc: Global, test: Test) -> Result<(), HeaderErr>
         ensures { Leaves result self.new (with_count self.old test) }
     {
         self.patterns = patterns_with(self.patterns, &test)?;
@@ -62,18 +67,18 @@ impl Draft {
         name: &str,
         aggregate: Aggregate,
         words: &[&[u8]],
-    ) -> Result<(), Fault>
+    ) -> Result<(), HeaderErr>
         requires { AllByRecursion IsUtf8 (map (λ word. word.now) words.now) }
         ensures { Leaves result self.new (with_entry self.old
             (aggregate_entry self.old.request.table name.now aggregate
             (map (λ word. word.now) words.now))) }
     {
         let [word, column] = words else {
-            return Err(Fault::Refused(Reason::BadValue(Text::new(alloc, name)?)));
+            return Err(HeaderErr::Refused(Reason::BadValue(Text::new(alloc, name)?)));
         };
         let Some(kind) = aggregate.kind() else {
             let word = Text::new(alloc, as_text(word))?;
-            return Err(Fault::Refused(Reason::AggregateUnsupported(word)));
+            return Err(HeaderErr::Refused(Reason::AggregateUnsupported(word)));
         };
         let column = number_column(alloc, self.request.table, as_text(column))?;
         self.stats.push_over(kind, column)?;
@@ -82,15 +87,15 @@ impl Draft {
 }
 
 /// The column of numbers that a table has by a name.
-fn number_column(alloc: Global, table: Table, name: &str) -> Result<Col, Fault>
+fn number_column(alloc: Global, table: Table, name: &str) -> Result<Col, HeaderErr>
     ensures column { Finds result (number_column name.now (column_of table name.now)) }
     ensures number { IfOk result (λ column. own_kind column.own ≡ ColKind.Int) }
 {
     let Some(column) = column(table, name) else {
-        return Err(Fault::Refused(Reason::UnknownColumn(Text::new(alloc, name)?)));
+        return Err(HeaderErr::Refused(Reason::UnknownColumn(Text::new(alloc, name)?)));
     };
     match kind(column) {
         ColKind::Int => Ok(column),
-        _ => Err(Fault::Refused(Reason::NotAllowed(Text::new(alloc, name)?))),
+        _ => Err(HeaderErr::Refused(Reason::NotAllowed(Text::new(alloc, name)?))),
     }
 }

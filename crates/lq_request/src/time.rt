@@ -3,7 +3,7 @@ ghost use Rattle.lq_request.specs.Reading.{Finds};
 ghost use Rattle.lq_request.specs.Window.{bounds_on, bounds_said, interval_of, own_time, second_at};
 ghost use Rattle.lq_request.specs.Window.{next_bound, time_test, whole_interval};
 
-use crate::fault::Fault;
+use crate::header_err::HeaderErr;
 use crate::reason::Reason;
 use lq_filter::{Comparison, Property, Test};
 use lq_schema::{Col, LineColumn, OwnColumn, Prefix, SliceColumn, Table};
@@ -99,7 +99,7 @@ pub struct Interval {
 
 impl Interval {
     /// The interval of a query on a table, by the bounds that its filters say together.
-    pub fn of(table: Table, bounds: TimeBounds) -> Result<Self, Fault>
+    pub fn of(table: Table, bounds: TimeBounds) -> Result<Self, HeaderErr>
         ensures { Finds result (interval_of table bounds) }
     {
         match table {
@@ -108,7 +108,7 @@ impl Interval {
                     from,
                     until: bounds.until,
                 }),
-                None => Err(Fault::Refused(Reason::TimeFilterMissing)),
+                None => Err(HeaderErr::Refused(Reason::TimeFilterMissing)),
             },
             Table::Log => Ok(Interval {
                 from: bounds.from.unwrap_or(0),

@@ -136,7 +136,7 @@ map_append : (xs ys : List Line) → map note_of (xs ++ ys) ≡ map note_of xs +
 map_append [] ys = refl
 map_append (x ∷ xs) ys = ap (λ list. note_of x ∷ list) (map_append xs ys)
 
--- a line behind others
+-- a line after others
 pub line_behind : (all lines : List Line) (line : Line) → all ≡ lines ++ line ∷ [] → map note_of all ≡ map note_of lines ++ note_of line ∷ []
 line_behind all lines line is = ap (map note_of) is ∙ map_append lines (line ∷ [])
 

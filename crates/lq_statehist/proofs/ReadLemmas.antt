@@ -13,7 +13,7 @@ use Rattle.lq_statehist.specs.Sorted.{below}
 none_at : {A : Type 0} (x : A) → ◌≡◌ {A = Option A} None (Some x) → ⊥
 none_at x same = true≢false (ap (λ (found : Option _). is_none found) same)
 
--- ---- what a line gives, before and behind others
+-- ---- what a line gives, before and after others
 
 alone : {A : Type 0} (found : Option A) → cons_option found [] ≡ option_to_list found
 alone None = refl

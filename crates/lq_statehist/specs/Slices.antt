@@ -47,3 +47,7 @@ histories base log from until subjects =
 -- those of all objects that are seen
 abbrev pub slices_of : Base → View → List LogEntry → ℕ → ℕ → List Slice
 slices_of base view log from until = histories base log from until (seen_subjects base view)
+
+-- the most slices that are given; where there would be more, none is
+abbrev pub most_slices : ℕ
+most_slices = 1000000

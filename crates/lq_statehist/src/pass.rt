@@ -4,6 +4,7 @@ ghost use Rattle.lq_statehist.specs.Facts.{Known};
 ghost use Rattle.lq_statehist.specs.Pass.{IsKnownThroughout, RisesFrom, before, known_of, note_of};
 ghost use Rattle.lq_statehist.specs.Pass.{piece_of_stretch, subject_of_lines};
 ghost use Rattle.lq_statehist.specs.History.{history, slice_of};
+ghost use Rattle.lq_statehist.specs.Slices.{most_slices};
 ghost use Rattle.lq_statehist.specs.Tiling.{HistoryPiece, with_piece_before, pieces_between};
 ghost use Rattle.lq_statehist.specs.declared.slice.HistErr.TheVariants.{TooMany};
 
@@ -51,10 +52,10 @@ pub(crate) fn history<'a>(
     requires order { RisesFrom 0 (map note_of notes.now) }
     ensures ok { OnOk result (slices.new.items ≡ slices.old.items
         ++ history (subject_of_lines about.now) (map note_of notes.now) span.from span.until) }
-    ensures many { result ≡ Err TooMany → 1000000 < length (slices.old.items
+    ensures many { result ≡ Err TooMany → most_slices < length (slices.old.items
         ++ history (subject_of_lines about.now) (map note_of notes.now) span.from span.until) }
-    ensures most { OnOk result (length slices.old.items ≤ 1000000
-        → length slices.new.items ≤ 1000000) }
+    ensures most { OnOk result (length slices.old.items ≤ most_slices
+        → length slices.new.items ≤ most_slices) }
 {
     let mut pass = Pass {
         growing: None,
@@ -91,14 +92,14 @@ fn advance(
         (pieces_between at pass.old.since until))) }
     ensures many { result ≡ Err TooMany → (until : ℕ) (at : ℕ → Known) → to ≤ until
         → IsKnownThroughout at (known_of pass.old.known) pass.old.since to
-        → 1000000 < length (slices.old.items ++ map (slice_of about)
+        → most_slices < length (slices.old.items ++ map (slice_of about)
         (before (option_map piece_of_stretch pass.old.growing)
         (pieces_between at pass.old.since until))) }
     ensures since { OnOk result (to ≤ pass.new.since) }
     ensures later { OnOk result (pass.old.since ≤ pass.new.since) }
     ensures known { OnOk result (pass.new.known ≡ pass.old.known) }
-    ensures most { OnOk result (length slices.old.items ≤ 1000000
-        → length slices.new.items ≤ 1000000) }
+    ensures most { OnOk result (length slices.old.items ≤ most_slices
+        → length slices.new.items ≤ most_slices) }
 {
     if to <= pass.since {
         return Ok(());
@@ -127,11 +128,11 @@ fn settle<'a>(
         (before (option_map piece_of_stretch growing.old)
         (with_piece_before (piece_of_stretch next.entry) later))) }
     ensures many { result ≡ Err TooMany → (later : List HistoryPiece)
-        → 1000000 < length (slices.old.items ++ map (slice_of about)
+        → most_slices < length (slices.old.items ++ map (slice_of about)
         (before (option_map piece_of_stretch growing.old)
         (with_piece_before (piece_of_stretch next.entry) later))) }
-    ensures most { OnOk result (length slices.old.items ≤ 1000000
-        → length slices.new.items ≤ 1000000) }
+    ensures most { OnOk result (length slices.old.items ≤ most_slices
+        → length slices.new.items ≤ most_slices) }
 {
     let Some(last) = *growing else {
         *growing = Some(next);
@@ -154,11 +155,11 @@ fn settle_after<'a>(
         (with_piece_before (piece_of_stretch pair.entry.last)
         (with_piece_before (piece_of_stretch pair.entry.next) later))) }
     ensures many { result ≡ Err TooMany → (later : List HistoryPiece)
-        → 1000000 < length (slices.old.items ++ map (slice_of about)
+        → most_slices < length (slices.old.items ++ map (slice_of about)
         (with_piece_before (piece_of_stretch pair.entry.last)
         (with_piece_before (piece_of_stretch pair.entry.next) later))) }
-    ensures most { OnOk result (length slices.old.items ≤ 1000000
-        → length slices.new.items ≤ 1000000) }
+    ensures most { OnOk result (length slices.old.items ≤ most_slices
+        → length slices.new.items ≤ most_slices) }
 {
     if pair.last.known.is_same(&pair.next.known) {
         *growing = Some(Stretch {
@@ -180,10 +181,10 @@ fn finish(
 ) -> Result<(), HistErr>
     ensures ok { OnOk result (slices.new.items ≡ slices.old.items
         ++ map (slice_of about) (before (option_map piece_of_stretch growing.entry) [])) }
-    ensures many { result ≡ Err TooMany → 1000000 < length (slices.old.items
+    ensures many { result ≡ Err TooMany → most_slices < length (slices.old.items
         ++ map (slice_of about) (before (option_map piece_of_stretch growing.entry) [])) }
-    ensures most { OnOk result (length slices.old.items ≤ 1000000
-        → length slices.new.items ≤ 1000000) }
+    ensures most { OnOk result (length slices.old.items ≤ most_slices
+        → length slices.new.items ≤ most_slices) }
 {
     match growing {
         Some(last) => push(slices, about, &last),
@@ -195,8 +196,8 @@ fn finish(
 fn push(slices: &mut Vec<Slice>, about: Object, stretch: &Stretch<'_>) -> Result<(), HistErr>
     ensures ok { OnOk result (slices.new.items
         ≡ slices.old.items ++ slice_of about (piece_of_stretch stretch.now) ∷ []) }
-    ensures many { result ≡ Err TooMany → 1000000 ≤ length slices.old.items }
-    ensures most { OnOk result (length slices.new.items ≤ 1000000) }
+    ensures many { result ≡ Err TooMany → most_slices ≤ length slices.old.items }
+    ensures most { OnOk result (length slices.new.items ≤ most_slices) }
 {
     if slices.len() >= MOST_SLICES {
         return Err(HistErr::TooMany);

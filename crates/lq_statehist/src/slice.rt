@@ -3,7 +3,7 @@ ghost use Rattle.std.specs.Prelude.{◌≡◌};
 use lq_records::Object;
 use std::alloc::AllocError;
 
-/// The most slices of one history.
+/// The most slices of the histories of all objects. With one more none is given.
 pub(crate) const MOST_SLICES: usize = 1_000_000;
 
 /// A run of seconds in which the log tells the same of an object.

@@ -7,7 +7,7 @@ ghost use Rattle.lq_records.specs.Sound.{IsSound};
 ghost use Rattle.lq_statehist.specs.History.{history};
 ghost use Rattle.lq_statehist.specs.Notes.{lines_below, notes_of};
 ghost use Rattle.lq_statehist.specs.Pass.{subject_of_lines};
-ghost use Rattle.lq_statehist.specs.Slices.{histories, host_subject, seen_subjects};
+ghost use Rattle.lq_statehist.specs.Slices.{histories, host_subject, most_slices, seen_subjects};
 ghost use Rattle.lq_statehist.specs.Slices.{service_subject, slices_of};
 ghost use Rattle.lq_statehist.specs.Sorted.{AreSorted, IsHosted, below};
 ghost use Rattle.lq_statehist.specs.declared.slice.HistErr.TheVariants.{TooMany};
@@ -41,8 +41,8 @@ pub fn slices<G: Ledger>(
 ) -> Result<Vec<Slice>, HistErr>
     ensures all { IfOk result (λ slices. slices.items
         ≡ slices_of live.now.state.base view.now live.now.state.log from until) }
-    ensures few { IfOk result (λ slices. length slices.items ≤ 1000000) }
-    ensures many { result ≡ Err TooMany → 1000000
+    ensures few { IfOk result (λ slices. length slices.items ≤ most_slices) }
+    ensures many { result ≡ Err TooMany → most_slices
         < length (slices_of live.now.state.base view.now live.now.state.log from until) }
     ensures cost { steps.new ≤ steps.old + lines_below until live.now.state.log + 1 }
 {
@@ -67,8 +67,8 @@ fn histories<'a>(
     ensures all { IfOk result (λ slices. slices.items
         ≡ histories live.now.state.base live.now.state.log span.from span.until
         (map subject_of_lines subjects.now)) }
-    ensures few { IfOk result (λ slices. length slices.items ≤ 1000000) }
-    ensures many { result ≡ Err TooMany → 1000000
+    ensures few { IfOk result (λ slices. length slices.items ≤ most_slices) }
+    ensures many { result ≡ Err TooMany → most_slices
         < length (histories live.now.state.base live.now.state.log span.from span.until
         (map subject_of_lines subjects.now)) }
 {
@@ -97,11 +97,11 @@ fn tell<'a>(
     ensures ok { OnOk result (slices.new.items ≡ slices.old.items
         ++ history (subject_of_lines about.now) (notes_of live.now.state.base live.now.state.log)
         span.from span.until) }
-    ensures many { result ≡ Err TooMany → 1000000 < length (slices.old.items
+    ensures many { result ≡ Err TooMany → most_slices < length (slices.old.items
         ++ history (subject_of_lines about.now) (notes_of live.now.state.base live.now.state.log)
         span.from span.until) }
-    ensures most { OnOk result (length slices.old.items ≤ 1000000
-        → length slices.new.items ≤ 1000000) }
+    ensures most { OnOk result (length slices.old.items ≤ most_slices
+        → length slices.new.items ≤ most_slices) }
 {
     let near = notes.near(about)?;
     history(slices, about, &near, span)

@@ -90,7 +90,7 @@ any_first key (first ∷ keys) =
 abbrev pub with_key : Key → List Key → List Key
 with_key key keys = cond (list_any (same_key key) keys) keys (keys ++ key ∷ [])
 
--- an if behind the same test
+-- an if after the same test
 same_test : {X Y : Type 0} (test : Bool) (f : X → Y) (a b : X) → f (cond test a b) ≡ cond test (f a) (f b)
 same_test true f a b = refl
 same_test false f a b = refl

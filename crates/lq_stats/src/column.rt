@@ -13,7 +13,7 @@ pub enum StatColumn {
 }
 
 impl StatColumn {
-    /// The cell of the row in a place. None behind the last row.
+    /// The cell of the row in a place. None after the last row.
     #[inline]
     pub fn get(&self, place: usize) -> Option<StatCell>
         ensures { result ≡ slice_get (column_cells self.now) place }

@@ -77,7 +77,7 @@ impl Model for Groups {
 }
 
 impl Groups {
-    /// The groups of no rows. The only error is that memory runs out.
+    /// The groups of no rows. The only error is out of memory.
     pub fn new(alloc: Global, spec: &StatsSpec) -> Result<Groups, Memory>
         ensures groups { IfOk result (λ groups. AreGroupsOf groups []) }
         ensures spec { IfOk result (λ groups. groups.spec ≡ spec.now) }
@@ -94,7 +94,7 @@ impl Groups {
     }
 
     /// Adds a cell to the key of the next row, which has fewer cells than there are columns. The
-    /// only error is that memory runs out.
+    /// only error is out of memory.
     pub fn key(&mut self, value: &Val<'_>) -> Result<(), Memory>
         requires { length self.old.next < self.old.spec.keys }
         ensures groups { (rows : List Row) → AreGroupsOf self.old rows → AreGroupsOf self.new rows }
@@ -112,7 +112,7 @@ impl Groups {
     ///
     /// The key has a cell for each column, and there is a cell for each statistic: `Counted` for
     /// `StatKind::Count`, else a number that is at most 2^64 away from zero. Fewer than 2^40 rows
-    /// were counted before. The only error is that memory runs out.
+    /// were counted before. The only error is out of memory.
     pub fn take(&mut self, cells: &[StatCell]) -> Result<(), Memory>
         requires key { length self.old.next ≡ self.old.spec.keys }
         requires cells { AllZip IsCellOf self.old.spec.entries cells.now }
@@ -273,7 +273,7 @@ fn count_of(marks: &[bool]) -> u64
     count
 }
 
-/// What is kept of one row. The only error is that memory runs out.
+/// What is kept of one row. The only error is out of memory.
 fn totals_of_row(alloc: Global, kinds: &[StatKind], cells: &[StatCell]) -> Result<Totals, Memory>
     requires long { length cells.now ≡ length kinds.now }
     requires sized { All IsSized cells.now }
@@ -312,7 +312,7 @@ fn push_group(
     Ok(())
 }
 
-/// The lines of groups. The only error is that memory runs out.
+/// The lines of groups. The only error is out of memory.
 fn kept_lines(alloc: Global, keys: &KeySet, totals: &[Totals]) -> Result<Items<StatLine>, Memory>
     requires long { length totals.now ≡ length keys.now }
     requires small { All (All IsSmall) totals.now }
@@ -329,7 +329,7 @@ fn kept_lines(alloc: Global, keys: &KeySet, totals: &[Totals]) -> Result<Items<S
     Ok(lines)
 }
 
-/// The values of a key. The only error is that memory runs out.
+/// The values of a key. The only error is out of memory.
 fn values_of(alloc: Global, key: &[KeyCell]) -> Result<Items<Val<'static>>, Memory>
     ensures { IfOk result (λ values. map meaning_of values ≡ key_values key.now) }
 {

@@ -37,7 +37,7 @@ impl Drop for KeyCell {
 }
 
 impl KeyCell {
-    /// A copy of a value. The only error is that memory runs out.
+    /// A copy of a value. The only error is out of memory.
     pub fn new(alloc: Global, value: &Val<'_>) -> Result<KeyCell, Memory>
         ensures { IfOk result (λ cell. cell_value cell ≡ meaning_of value.now) }
     {
@@ -52,7 +52,7 @@ impl KeyCell {
         })
     }
 
-    /// The value, whose text is `Val::Own`. The only error is that memory runs out.
+    /// The value, whose text is `Val::Own`. The only error is out of memory.
     pub fn to_value(&self, alloc: Global) -> Result<Val<'static>, Memory>
         ensures { IfOk result (λ value. meaning_of value ≡ cell_value self.now) }
     {

@@ -30,7 +30,7 @@ impl Model for Totals {
 }
 
 impl Totals {
-    /// What is kept of no rows. The only error is that memory runs out.
+    /// What is kept of no rows. The only error is out of memory.
     pub fn new(alloc: Global, kinds: &[StatKind]) -> Result<Totals, Memory>
         ensures { IfOk result (λ totals. totals ≡ map (λ kind. total_of kind []) kinds.now) }
     {
@@ -61,7 +61,7 @@ impl Totals {
         add_columns(self.each.as_mut_slice(), marks, columns);
     }
 
-    /// The values of the statistics. The only error is that memory runs out.
+    /// The values of the statistics. The only error is out of memory.
     pub fn values(&self, alloc: Global) -> Result<Items<Val<'static>>, Memory>
         requires { All IsSmall self.now }
         ensures { IfOk result (λ values. map meaning_of values ≡ map total_value self.now) }

@@ -3,6 +3,7 @@
 ghost use Rattle.std.specs.Prelude.{◌≡◌, ◌<◌, ◌≤◌, ◌+◌, Err, IfOk, length, map};
 ghost use Rattle.lq_schema.specs.declared.columns.Table.TheVariants as table;
 ghost use Rattle.lq_statehist.specs.Notes.{lines_below};
+ghost use Rattle.lq_statehist.specs.Slices.{most_slices};
 ghost use Rattle.lq_tables.specs.Rows.{history_row, rows_of};
 ghost use Rattle.lq_tables.specs.declared.rows_err.RowsErr.TheVariants.{TooMany};
 
@@ -30,9 +31,9 @@ pub(crate) fn history_rows<G: Ledger>(
 ) -> Result<Vec<Row>, RowsErr>
     ensures all { IfOk result (λ rows.
         rows.items ≡ rows_of live.now.state view.now window.now table.StateHist) }
-    ensures few { IfOk result (λ rows. length rows.items ≤ 1000000) }
+    ensures few { IfOk result (λ rows. length rows.items ≤ most_slices) }
     ensures many { result ≡ Err TooMany
-        → 1000000 < length (rows_of live.now.state view.now window.now table.StateHist) }
+        → most_slices < length (rows_of live.now.state view.now window.now table.StateHist) }
     ensures cost { steps.new ≤ steps.old + lines_below window.now.until live.now.state.log + 1 }
 {
     match slices(alloc, live, view, window.from, window.until, steps) {
