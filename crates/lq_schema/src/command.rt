@@ -13,7 +13,7 @@ pub enum CommandColumn {
 
 impl CommandColumn {
     /// The columns, in order.
-    pub(crate) const ORDER: [Self; 2] = [Self::Name, Self::Line];
+    pub(crate) const ORDER: &'static [Self] = &[Self::Name, Self::Line];
 
     /// The name of the column, and the kind of its values.
     pub(crate) fn heading(self) -> Heading

@@ -18,7 +18,7 @@ pub enum CommentColumn {
 
 impl CommentColumn {
     /// The columns, in order.
-    pub(crate) const ORDER: [Self; 7] = [
+    pub(crate) const ORDER: &'static [Self] = &[
         Self::Id,
         Self::Author,
         Self::Comment,

@@ -17,7 +17,7 @@ pub enum ContactColumn {
 
 impl ContactColumn {
     /// The columns, in order.
-    pub(crate) const ORDER: [Self; 6] = [
+    pub(crate) const ORDER: &'static [Self] = &[
         Self::Name,
         Self::Alias,
         Self::Email,

@@ -14,7 +14,7 @@ pub enum ContactGroupColumn {
 
 impl ContactGroupColumn {
     /// The columns, in order.
-    pub(crate) const ORDER: [Self; 3] = [Self::Name, Self::Alias, Self::Members];
+    pub(crate) const ORDER: &'static [Self] = &[Self::Name, Self::Alias, Self::Members];
 
     /// The name of the column, and the kind of its values.
     pub(crate) fn heading(self) -> Heading

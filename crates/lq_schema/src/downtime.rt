@@ -21,7 +21,7 @@ pub enum DowntimeColumn {
 
 impl DowntimeColumn {
     /// The columns, in order.
-    pub(crate) const ORDER: [Self; 10] = [
+    pub(crate) const ORDER: &'static [Self] = &[
         Self::Id,
         Self::Author,
         Self::Comment,

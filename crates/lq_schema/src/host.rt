@@ -23,10 +23,10 @@ pub enum HostColumn {
 }
 
 /// The columns before those that it shares with others, in order.
-const FRONT: [HostColumn; 3] = [HostColumn::Name, HostColumn::Alias, HostColumn::Address];
+const FRONT: &[HostColumn] = &[HostColumn::Name, HostColumn::Alias, HostColumn::Address];
 
 /// The columns between those of the object and those of the status, in order.
-const LINKS: [HostColumn; 3] = [
+const LINKS: &[HostColumn] = &[
     HostColumn::Parents,
     HostColumn::Childs,
     HostColumn::Services,

@@ -17,7 +17,7 @@ pub enum HostCounter {
 
 impl HostCounter {
     /// The columns, in order.
-    pub(crate) const ORDER: [Self; 6] = [
+    pub(crate) const ORDER: &'static [Self] = &[
         Self::NumHosts,
         Self::NumHostsUp,
         Self::NumHostsDown,

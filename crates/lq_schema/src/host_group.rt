@@ -21,7 +21,7 @@ pub enum HostGroupColumn {
 }
 
 /// The columns before those that it shares with others, in order.
-const FRONT: [HostGroupColumn; 6] = [
+const FRONT: &[HostGroupColumn] = &[
     HostGroupColumn::Name,
     HostGroupColumn::Alias,
     HostGroupColumn::Notes,

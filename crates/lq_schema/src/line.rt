@@ -25,7 +25,7 @@ pub enum LineColumn {
 
 impl LineColumn {
     /// The columns, in order.
-    pub(crate) const ORDER: [Self; 14] = [
+    pub(crate) const ORDER: &'static [Self] = &[
         Self::Time,
         Self::Class,
         Self::Type,

@@ -25,7 +25,7 @@ pub enum ObjectColumn {
 
 impl ObjectColumn {
     /// The columns, in order.
-    pub(crate) const ORDER: [Self; 14] = [
+    pub(crate) const ORDER: &'static [Self] = &[
         Self::DisplayName,
         Self::CheckCommand,
         Self::CheckPeriod,

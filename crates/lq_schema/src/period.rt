@@ -14,7 +14,7 @@ pub enum PeriodColumn {
 
 impl PeriodColumn {
     /// The columns, in order.
-    pub(crate) const ORDER: [Self; 3] = [Self::Name, Self::Alias, Self::In];
+    pub(crate) const ORDER: &'static [Self] = &[Self::Name, Self::Alias, Self::In];
 
     /// The name of the column, and the kind of its values.
     pub(crate) fn heading(self) -> Heading

@@ -16,7 +16,7 @@ pub enum ProgramColumn {
 
 impl ProgramColumn {
     /// The columns, in order.
-    pub(crate) const ORDER: [Self; 5] = [
+    pub(crate) const ORDER: &'static [Self] = &[
         Self::ProgramVersion,
         Self::EnableNotifications,
         Self::NumHosts,

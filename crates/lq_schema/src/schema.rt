@@ -14,7 +14,7 @@ use crate::columns::{Col, ColKind, Name, Part, Prefix, Subject, Table};
 pub fn tables() -> &'static [Table]
     ensures { result.now ≡ tables }
 {
-    &TABLES
+    TABLES
 }
 
 /// The table of a name. None where no table has it.
@@ -131,7 +131,7 @@ fn without_prefix<'a>(name: &'a str, front: &str) -> Option<&'a str>
     name.strip_prefix(front)
 }
 
-const TABLES: [Table; 17] = [
+const TABLES: &[Table] = &[
     Table::Hosts,
     Table::Services,
     Table::HostGroups,

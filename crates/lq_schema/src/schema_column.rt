@@ -15,7 +15,12 @@ pub enum SchemaColumn {
 
 impl SchemaColumn {
     /// The columns, in order.
-    pub(crate) const ORDER: [Self; 4] = [Self::Table, Self::Name, Self::Type, Self::Description];
+    pub(crate) const ORDER: &'static [Self] = &[
+        Self::Table,
+        Self::Name,
+        Self::Type,
+        Self::Description,
+    ];
 
     /// The name of the column, and the kind of its values.
     pub(crate) fn heading(self) -> Heading

@@ -16,7 +16,7 @@ pub enum ServiceColumn {
 }
 
 /// The columns before those that it shares with others, in order.
-const FRONT: [ServiceColumn; 1] = [ServiceColumn::Description];
+const FRONT: &[ServiceColumn] = &[ServiceColumn::Description];
 
 impl ServiceColumn {
     /// The name of the column, and the kind of its values.

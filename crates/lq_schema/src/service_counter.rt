@@ -18,7 +18,7 @@ pub enum ServiceCounter {
 
 impl ServiceCounter {
     /// The columns, in order.
-    pub(crate) const ORDER: [Self; 7] = [
+    pub(crate) const ORDER: &'static [Self] = &[
         Self::NumServices,
         Self::NumServicesOk,
         Self::NumServicesWarn,

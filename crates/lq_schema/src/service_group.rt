@@ -19,7 +19,7 @@ pub enum ServiceGroupColumn {
 }
 
 /// The columns before those that it shares with others, in order.
-const FRONT: [ServiceGroupColumn; 6] = [
+const FRONT: &[ServiceGroupColumn] = &[
     ServiceGroupColumn::Name,
     ServiceGroupColumn::Alias,
     ServiceGroupColumn::Notes,

@@ -51,7 +51,7 @@ pub enum SliceColumn {
 
 impl SliceColumn {
     /// The columns, in order.
-    pub(crate) const ORDER: [Self; 20] = [
+    pub(crate) const ORDER: &'static [Self] = &[
         Self::Time,
         Self::From,
         Self::Until,

@@ -30,7 +30,7 @@ pub enum StatusColumn {
 
 impl StatusColumn {
     /// The columns, in order.
-    pub(crate) const ORDER: [Self; 19] = [
+    pub(crate) const ORDER: &'static [Self] = &[
         Self::State,
         Self::StateType,
         Self::HardState,
