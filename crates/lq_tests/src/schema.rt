@@ -118,37 +118,33 @@ impl Part {
 /// A prefix, and the columns after it.
 type Joined = (&'static str, Part);
 
-/// A table's name, its own prefix, how many columns it has, and which.
-type Listed = (&'static str, &'static str, usize, &'static [Joined]);
+/// A table's name, its own prefix, and its columns.
+type Listed = (&'static str, &'static str, &'static [Joined]);
 
 const LISTED: &[Listed] = &[
-    ("hosts", "host_", 46, &[("", Part::Host)]),
+    ("hosts", "host_", &[("", Part::Host)]),
     (
         "services",
         "service_",
-        80,
         &[("", Part::Service), ("host_", Part::Host)],
     ),
-    ("hostgroups", "hostgroup_", 19, &[("", Part::HostGroup)]),
+    ("hostgroups", "hostgroup_", &[("", Part::HostGroup)]),
     (
         "servicegroups",
         "servicegroup_",
-        13,
         &[("", Part::ServiceGroup)],
     ),
-    ("contacts", "contact_", 6, &[("", Part::Contact)]),
+    ("contacts", "contact_", &[("", Part::Contact)]),
     (
         "contactgroups",
         "contactgroup_",
-        3,
         &[("", Part::ContactGroup)],
     ),
-    ("commands", "command_", 2, &[("", Part::Command)]),
-    ("timeperiods", "timeperiod_", 3, &[("", Part::TimePeriod)]),
+    ("commands", "command_", &[("", Part::Command)]),
+    ("timeperiods", "timeperiod_", &[("", Part::TimePeriod)]),
     (
         "downtimes",
         "downtime_",
-        90,
         &[
             ("", Part::Downtime),
             ("host_", Part::Host),
@@ -158,7 +154,6 @@ const LISTED: &[Listed] = &[
     (
         "comments",
         "comment_",
-        87,
         &[
             ("", Part::Comment),
             ("host_", Part::Host),
@@ -168,25 +163,22 @@ const LISTED: &[Listed] = &[
     (
         "log",
         "log_",
-        94,
         &[
             ("", Part::Line),
             ("current_host_", Part::Host),
             ("current_service_", Part::Service),
         ],
     ),
-    ("status", "status_", 5, &[("", Part::Program)]),
-    ("columns", "column_", 4, &[("", Part::Column)]),
+    ("status", "status_", &[("", Part::Program)]),
+    ("columns", "column_", &[("", Part::Column)]),
     (
         "hostsbygroup",
         "host_",
-        65,
         &[("", Part::Host), ("hostgroup_", Part::HostGroup)],
     ),
     (
         "servicesbygroup",
         "service_",
-        93,
         &[
             ("", Part::Service),
             ("host_", Part::Host),
@@ -196,7 +188,6 @@ const LISTED: &[Listed] = &[
     (
         "servicesbyhostgroup",
         "service_",
-        99,
         &[
             ("", Part::Service),
             ("host_", Part::Host),
@@ -206,7 +197,6 @@ const LISTED: &[Listed] = &[
     (
         "statehist",
         "statehist_",
-        100,
         &[
             ("", Part::Slice),
             ("current_host_", Part::Host),
@@ -311,10 +301,9 @@ impl Expected {
     fn assert_table<R: Abort + AllocGlobal>(
         &mut self,
         rt: &R,
-        (name, own_prefix, count, parts): Listed,
+        (name, own_prefix, parts): Listed,
     ) -> Result<(), Fail> {
         let table = table(name).ok_or(name)?;
-        assert!(rt; column_count(table) == count, "at {name}");
         self.lines.clear();
         for joined in parts {
             self.push_joined(name, *joined)?;

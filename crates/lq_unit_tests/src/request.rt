@@ -3,7 +3,7 @@
 use lq_objects::read_objects;
 use lq_records::Rules;
 use lq_request::{Cut, Cutting, ReadErr, Request, read_request, reply_style};
-use lq_schema::{Col, column_name};
+use lq_schema::{Col, Table, column_at, column_count, column_name};
 use std::alloc::{AllocError, Global};
 use std::process::Abort;
 use std::test::Fail;
@@ -275,8 +275,8 @@ fn a_message_ends_within_its_limit(rt: HostRuntime) -> Result<(), Fail> {
 // ---- what a message asks
 
 /// What a message asks: its table, `+names` where a line of names comes first, `+keep` where the
-/// connection goes on, `+limit` with the most rows where it says them, and its columns, or how many
-/// they are. Of a refused one its code, `+keep` and its text.
+/// connection goes on, `+limit` with the most rows where it says them, and its columns. Of a
+/// refused one its code, `+keep` and its text.
 fn shown(alloc: Global, read: &Result<Request, ReadErr>) -> Result<String, AllocError> {
     match read {
         Ok(request) => shown_request(alloc, request),
@@ -296,7 +296,7 @@ fn shown_request(alloc: Global, request: &Request) -> Result<String, AllocError>
     let names = if request.head { "+names" } else { "" };
     let keep = if request.keep { "+keep" } else { "" };
     let limit = shown_limit(alloc, request.limit)?;
-    let columns = shown_columns(alloc, request.columns.as_slice())?;
+    let columns = shown_columns(alloc, request.table, request.columns.as_slice())?;
     format!(in alloc; "{}{names}{keep}{limit}{columns}", request.table.name())
 }
 
@@ -307,9 +307,28 @@ fn shown_limit(alloc: Global, limit: Option<u64>) -> Result<String, AllocError> 
     }
 }
 
-/// The names of columns with a blank before each, or how many they are where they are many.
-fn shown_columns(alloc: Global, columns: &[Col]) -> Result<String, AllocError> {
+/// Whether columns are all those of a table, in order, by their names.
+fn are_all(table: Table, columns: &[Col]) -> bool {
+    for i in 0..column_count(table) {
+        let Some(column) = columns.get(i) else {
+            return false;
+        };
+        let name = column_name(*column);
+        let expected = column_name(column_at(table, i));
+        if name.prefix != expected.prefix || name.name != expected.name {
+            return false;
+        }
+    }
+    columns.len() == column_count(table)
+}
+
+/// The names of columns with a blank before each. Where they are many, that they are all of the
+/// table, or how many they are.
+fn shown_columns(alloc: Global, table: Table, columns: &[Col]) -> Result<String, AllocError> {
     if columns.len() > 4 {
+        if are_all(table, columns) {
+            return String::from_str(alloc, " all columns");
+        }
         return format!(in alloc; " {} columns", columns.len());
     }
     let mut shown = String::new(alloc);
@@ -382,28 +401,28 @@ const COLUMNS: &[(&[u8], &str)] = &[
 ];
 
 const ALL_COLUMNS: &[(&[u8], &str)] = &[
-    (b"GET hosts", "hosts+names 46 columns"),
-    (b" GET\thosts\r\n", "hosts+names 46 columns"),
-    (b"GET services", "services+names 80 columns"),
-    (b"GET hostgroups", "hostgroups+names 19 columns"),
-    (b"GET servicegroups", "servicegroups+names 13 columns"),
-    (b"GET contacts", "contacts+names 6 columns"),
+    (b"GET hosts", "hosts+names all columns"),
+    (b" GET\thosts\r\n", "hosts+names all columns"),
+    (b"GET services", "services+names all columns"),
+    (b"GET hostgroups", "hostgroups+names all columns"),
+    (b"GET servicegroups", "servicegroups+names all columns"),
+    (b"GET contacts", "contacts+names all columns"),
     (
         b"GET contactgroups",
         "contactgroups+names name alias members",
     ),
     (b"GET commands", "commands+names name line"),
     (b"GET timeperiods", "timeperiods+names name alias in"),
-    (b"GET downtimes", "downtimes+names 90 columns"),
-    (b"GET comments", "comments+names 87 columns"),
-    (b"GET log", "log+names 94 columns"),
-    (b"GET status", "status+names 5 columns"),
+    (b"GET downtimes", "downtimes+names all columns"),
+    (b"GET comments", "comments+names all columns"),
+    (b"GET log", "log+names all columns"),
+    (b"GET status", "status+names all columns"),
     (b"GET columns", "columns+names table name type description"),
-    (b"GET hostsbygroup", "hostsbygroup+names 65 columns"),
-    (b"GET servicesbygroup", "servicesbygroup+names 93 columns"),
+    (b"GET hostsbygroup", "hostsbygroup+names all columns"),
+    (b"GET servicesbygroup", "servicesbygroup+names all columns"),
     (
         b"GET servicesbyhostgroup",
-        "servicesbyhostgroup+names 99 columns",
+        "servicesbyhostgroup+names all columns",
     ),
 ];
 
