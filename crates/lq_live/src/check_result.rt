@@ -182,6 +182,7 @@ impl<'a> StepContext<'a> {
 }
 
 /// The end of the acknowledgement, where it ends.
+/// Where it doesn't end no comment can go, so the comments aren't walked.
 fn push_end(edits: &mut Vec<Edit>, check: CheckResult<'_>, old: &Status) -> Result<(), Memory>
     ensures { OnOk result (Adds edits.old.items edits.new.items (only_if
         (ends_acknowledgement check.entry.state old.now)

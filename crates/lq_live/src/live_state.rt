@@ -28,6 +28,7 @@ pub(crate) struct LiveState {
     pub(crate) next_comment: u64,
     pub(crate) notifications: bool,
     /// No downtime begins or ends before this second.
+    /// It may be too early, as once a downtime is removed: that costs a walk and changes nothing.
     pub(crate) next_moment: u64,
     /// What the log last told.
     pub(crate) told: LastTold,

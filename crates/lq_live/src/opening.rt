@@ -56,6 +56,7 @@ impl LiveState {
             told.add_line(&self.base, entry);
         }
         self.told = told;
+        // Outputs are parted last: most lines are followed by others about the same object.
         part_all(alloc, &mut self.host_status)?;
         part_all(alloc, &mut self.service_status)
     }

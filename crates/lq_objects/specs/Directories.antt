@@ -4,8 +4,9 @@ use Rattle.lq_names.specs.Names.{ObjectName, both_parts}
 use Rattle.lq_records.specs.declared.base.Base.{Base}
 use Rattle.lq_objects.specs.Names.{Block, block_names}
 use Rattle.lq_objects.specs.declared.kind.BlockKind.{BlockKind}
-use Rattle.lq_objects.specs.declared.kind.BlockKind.TheVariants.{Host, Service, HostGroup, ServiceGroup}
-use Rattle.lq_objects.specs.declared.kind.BlockKind.TheVariants.{Contact, ContactGroup, Period, Command}
+use Rattle.lq_objects.specs.declared.kind.BlockKind.TheVariants.{Host, Service, HostGroup}
+use Rattle.lq_objects.specs.declared.kind.BlockKind.TheVariants.{ServiceGroup, Contact}
+use Rattle.lq_objects.specs.declared.kind.BlockKind.TheVariants.{ContactGroup, Period, Command}
 use Rattle.lq_objects.specs.declared.directory.Directory.{Directory}
 
 abbrev pub empty : Directory

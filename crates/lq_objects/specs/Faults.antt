@@ -105,23 +105,23 @@ name_fault kind earlier name line =
 -- ---- a part
 
 -- the fault where a block ends: it isn't closed, or its object's name is at fault
-abbrev pub ending_fault : (BlockKind → List ObjectName) → ℕ → Option BlockKind → List Line → Option Line
-    → Option FaultyLine
+abbrev pub ending_fault : (BlockKind → List ObjectName) → ℕ → Option BlockKind → List Line
+    → Option Line → Option FaultyLine
 ending_fault earlier opening kind lines None = Some (record { line = opening; what = Unclosed })
 ending_fault earlier opening None lines (Some closing) = None
 ending_fault earlier opening (Some kind) lines (Some closing) =
     name_fault kind (earlier kind) (name_of kind lines) closing.number
 
 -- the fault of a block that is open, by its kind
-abbrev pub opened_fault : (BlockKind → List ObjectName) → ℕ → Option BlockKind → List Line → Option Line
-    → Option FaultyLine
+abbrev pub opened_fault : (BlockKind → List ObjectName) → ℕ → Option BlockKind → List Line
+    → Option Line → Option FaultyLine
 opened_fault earlier opening kind lines closing =
     option_or (first_of (inner_fault opening kind) lines)
     (ending_fault earlier opening kind lines closing)
 
 -- the fault of a block, by the word after `define`
-abbrev pub block_fault : (BlockKind → List ObjectName) → ℕ → Option (List ℕ) → List Line → Option Line
-    → Option FaultyLine
+abbrev pub block_fault : (BlockKind → List ObjectName) → ℕ → Option (List ℕ) → List Line
+    → Option Line → Option FaultyLine
 block_fault earlier opening None lines closing = Some (record { line = opening; what = Stray })
 block_fault earlier opening (Some word) lines closing =
     opened_fault earlier opening (kind_named word) lines closing

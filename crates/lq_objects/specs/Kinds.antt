@@ -1,8 +1,9 @@
 -- The kinds of objects, the directives that name an object, and those that name others.
 use Rattle.std.specs.Prelude.{ℕ, Option, Some, None, List, [], ◌∷◌, find, bytes_eq, codes}
 use Rattle.lq_objects.specs.declared.kind.BlockKind.{BlockKind}
-use Rattle.lq_objects.specs.declared.kind.BlockKind.TheVariants.{Host, Service, HostGroup, ServiceGroup}
-use Rattle.lq_objects.specs.declared.kind.BlockKind.TheVariants.{Contact, ContactGroup, Period, Command}
+use Rattle.lq_objects.specs.declared.kind.BlockKind.TheVariants.{Host, Service, HostGroup}
+use Rattle.lq_objects.specs.declared.kind.BlockKind.TheVariants.{ServiceGroup, Contact}
+use Rattle.lq_objects.specs.declared.kind.BlockKind.TheVariants.{ContactGroup, Period, Command}
 use Rattle.lq_objects.specs.declared.kind.Reference.{Reference}
 use Rattle.lq_objects.specs.declared.kind.Reference.TheVariants as reference
 

@@ -47,7 +47,8 @@ places known reference lines =
     option_map_or (places_in known reference) (directive (reference_directive reference) lines) []
 
 -- the ids of the objects at those places, each made of its place by `id_at`
-abbrev pub ids : {Id : Type 0} → (ℕ → Id) → (BlockKind → List ObjectName) → Reference → List Line → List Id
+abbrev pub ids : {Id : Type 0} → (ℕ → Id) → (BlockKind → List ObjectName) → Reference
+    → List Line → List Id
 ids id_at known reference lines = map id_at (places known reference lines)
 
 -- ---- fields

@@ -104,6 +104,8 @@ struct Reader<'r, 'a> {
     texts: &'r Texts,
     directory: &'r Directory,
     lines: &'r [Line<'a>],
+    /// Objects have clones of it, which share its bytes: a second text of each service's host would
+    /// take memory for each.
     own_name: &'r (Text, Text),
 }
 

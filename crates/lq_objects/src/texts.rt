@@ -15,6 +15,8 @@ const PLACES: usize = 4096;
 pub(crate) struct Texts {
     alloc: Global,
     /// Each text at the place that its bytes give. A later one takes the place of an earlier one.
+    /// They stand in cells, since what is remembered changes no answer: one is only given where its
+    /// bytes are those that are asked for.
     recent: Vec<Cell<Text>>,
 }
 
