@@ -31,7 +31,8 @@ impl Draft {
 
     /// No objects. It takes no memory.
     pub(crate) fn new(rules: Rules) -> Self
-        ensures { (names : BlockKind → List ObjectName) → base_of_draft result ≡ objects_of names rules [] }
+        ensures { (names : BlockKind → List ObjectName)
+            → base_of_draft result ≡ objects_of names rules [] }
     {
         Draft {
             rules,

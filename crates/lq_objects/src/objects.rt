@@ -260,7 +260,8 @@ impl<'r, 'a> Reader<'r, 'a> {
         ensures group { IfOk result (λ group. group
             ≡ service_group_of (names_in self.now.directory.now) self.now.lines.now) }
         ensures unknown { MakesUnless result (lacks_any_named
-            (names_in self.now.directory.now) self.now.lines.now (references BlockKind.ServiceGroup)) }
+            (names_in self.now.directory.now) self.now.lines.now
+            (references BlockKind.ServiceGroup)) }
     {
         let servicegroup_name = self.own_name.0.clone()?;
         Ok(ServiceGroup {
@@ -293,7 +294,8 @@ impl<'r, 'a> Reader<'r, 'a> {
         ensures group { IfOk result (λ group. group
             ≡ contact_group_of (names_in self.now.directory.now) self.now.lines.now) }
         ensures unknown { MakesUnless result (lacks_any_named
-            (names_in self.now.directory.now) self.now.lines.now (references BlockKind.ContactGroup)) }
+            (names_in self.now.directory.now) self.now.lines.now
+            (references BlockKind.ContactGroup)) }
     {
         let contactgroup_name = self.own_name.0.clone()?;
         Ok(ContactGroup {
