@@ -8,8 +8,9 @@ ghost use Rattle.lq_columns.specs.Counts.{worst_of, worst_service};
 ghost use Rattle.lq_columns.specs.Severity.{host_severity, severity_at};
 
 use crate::counted::{Counted, counts_at};
+use crate::members::{count_in_group, worst_in_group};
 use crate::scope::Scope;
-use crate::selection::{Selection, members_of_hosts};
+use crate::selection::{Hosts, Selection, members_of_hosts};
 use crate::severity::{host_severity_at, host_state_by};
 use lq_auth::View;
 use lq_events::Status;
@@ -22,8 +23,9 @@ use std::alloc::Global;
 
 /// The value of a counter over the services of a host, of the hosts in a group, or in a group, as
 /// far as they are seen: how many there are, how many were never checked, how many of the others
-/// are in a state, and the worst state of all. 0 where there is no such host or group. The members
-/// of a group are marked where memory allows; without it the value is the same, and takes longer.
+/// are in a state, and the worst state of all. 0 where there is no such host or group. The hosts
+/// that a group lists are marked once a cell where memory allows; without it the value is the same,
+/// and takes longer. Of a group of services the members are walked, which takes no memory.
 pub fn services_value(
     alloc: Global,
     live: &Live,
@@ -60,15 +62,33 @@ fn services_in(
     ensures { meaning_of result
         ≡ natural (services_counted live.now.state view.now scope which) }
 {
-    let selection = Selection::new(alloc, live.base(), view, scope);
-    Val::Int(selection.count(live.service_statuses(), which) as i128)
+    let statuses = live.service_statuses();
+    let count = match scope {
+        Scope::Host(id) => {
+            Selection::new(alloc, live.base(), view, Hosts::One(id)).count(statuses, which)
+        }
+        Scope::HostGroup(group) => {
+            Selection::new(alloc, live.base(), view, Hosts::Listed(group)).count(statuses, which)
+        }
+        Scope::ServiceGroup(group) => count_in_group(live.base(), statuses, view, group, which),
+    };
+    Val::Int(count as i128)
 }
 
 fn worst_service(alloc: Global, live: &Live, view: &View, scope: Scope) -> Val<'static>
     ensures { meaning_of result ≡ natural (worst_service live.now.state view.now scope) }
 {
-    let selection = Selection::new(alloc, live.base(), view, scope);
-    Val::Int(i128::from(selection.worst(live.service_statuses())))
+    let statuses = live.service_statuses();
+    let worst = match scope {
+        Scope::Host(id) => {
+            Selection::new(alloc, live.base(), view, Hosts::One(id)).worst(statuses)
+        }
+        Scope::HostGroup(group) => {
+            Selection::new(alloc, live.base(), view, Hosts::Listed(group)).worst(statuses)
+        }
+        Scope::ServiceGroup(group) => worst_in_group(live.base(), statuses, view, group),
+    };
+    Val::Int(i128::from(worst))
 }
 
 // ---- hosts

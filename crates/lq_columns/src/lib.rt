@@ -9,6 +9,7 @@ mod empty;
 mod entries;
 mod host;
 mod marks;
+mod members;
 mod monitored;
 mod names;
 mod object;

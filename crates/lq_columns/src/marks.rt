@@ -1,45 +1,20 @@
-ghost use Rattle.std.specs.Prelude.{◌≡◌, ℕ, true, slice_set};
+ghost use Rattle.std.specs.Prelude.{◌≡◌, true, slice_set};
 ghost use Rattle.lq_columns.specs.Marks.{AreMarks, has_place};
 
-use lq_records::{HostId, ServiceId};
+use lq_records::HostId;
 use std::alloc::Global;
 
-/// The id of an object that a group lists.
-pub(crate) trait Member: Copy {
-    ghost place_of: { Self → ℕ };
-
-    /// The object's place in the base's list of its kind.
-    fn place(self) -> usize
-        ensures { result ≡ place_of self };
-}
-
-impl Member for HostId {
-    ghost place_of = { λ id. id.0 };
-
-    fn place(self) -> usize {
-        self.0 as usize
-    }
-}
-
-impl Member for ServiceId {
-    ghost place_of = { λ id. id.0 };
-
-    fn place(self) -> usize {
-        self.0 as usize
-    }
-}
-
-/// For each of the first places of objects, whether a list has the object there. No marks where
+/// For each of the first places of hosts, whether a list has the host there. No marks where
 /// there is no memory for them.
 #[tactic(auto, using(crate::proofs::MarkLemmas::marks_begin, crate::proofs::MarkLemmas::marks_next, crate::proofs::MarkLemmas::marks_end))]
-pub(crate) fn marks_of<I: Member>(alloc: Global, members: &[I], count: usize) -> Vec<bool>
-    ensures { AreMarks (has_place I.place_of members.now) result.items }
+pub(crate) fn marks_of(alloc: Global, members: &[HostId], count: usize) -> Vec<bool>
+    ensures { AreMarks (has_place members.now) result.items }
 {
     let Ok(mut marks) = vec![in alloc; false; count] else {
         return Vec::new(alloc);
     };
     for member in members {
-        mark(&mut marks, member.place());
+        mark(&mut marks, member.0 as usize);
     }
     marks
 }
@@ -53,10 +28,10 @@ fn mark(marks: &mut [bool], place: usize)
     }
 }
 
-/// Whether a list has the object at a place, by its mark where it has one.
-pub(crate) fn has_marked<I: Member>(members: &[I], marks: &[bool], place: usize) -> bool
-    requires { AreMarks (has_place I.place_of members.now) marks.now }
-    ensures { result ≡ has_place I.place_of members.now place }
+/// Whether a list has the host at a place, by its mark where it has one.
+pub(crate) fn has_marked(members: &[HostId], marks: &[bool], place: usize) -> bool
+    requires { AreMarks (has_place members.now) marks.now }
+    ensures { result ≡ has_place members.now place }
 {
     if place < marks.len() {
         marks[place]
@@ -65,8 +40,8 @@ pub(crate) fn has_marked<I: Member>(members: &[I], marks: &[bool], place: usize)
     }
 }
 
-fn has_place<I: Member>(members: &[I], place: usize) -> bool
-    ensures { result ≡ has_place I.place_of members.now place }
+fn has_place(members: &[HostId], place: usize) -> bool
+    ensures { result ≡ has_place members.now place }
 {
-    members.iter().any(|member| member.place() == place)
+    members.iter().any(|member| member.0 as usize == place)
 }
