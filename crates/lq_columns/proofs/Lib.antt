@@ -1,7 +1,7 @@
 pub mod Distinct
 pub mod Found
-pub mod MarkLemmas
+pub mod HostServices
 pub mod MemberLemmas
-pub mod ServiceGroups
+pub mod Scopes
 pub mod Sought
 pub mod Worst

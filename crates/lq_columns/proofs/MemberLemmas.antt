@@ -1,9 +1,11 @@
 -- What is made of the places that a list's members have is what is made of the members, where they have different places below a
--- number: each of these places then belongs to one of them.
-use Rattle.std.proofs.Common.{◌≡◌, ◌≢◌, ℕ, zero, suc, ◌+◌, ◌<◌, ◌≤◌, ◌==◌, Bool, true, false, ◌||◌, cond, max, List, [], ◌∷◌, length, get_or, map, filter, fold, All, AllPairs, refl, sym, ap, subst, ◌∙◌, arith}
+-- number: each of these places then belongs to one of them. And what is made of the items of several owners is what is made of
+-- each owner's, where the owners are different.
+use Rattle.std.proofs.Common.{◌≡◌, ◌≢◌, ℕ, zero, suc, ◌+◌, ◌<◌, ◌≤◌, ◌==◌, Bool, true, false, ◌||◌, cond, max, Option, None, Some, List, [], ◌∷◌, ◌++◌, length, get_or, map, filter, fold, All, AllPairs, refl, sym, ap, subst, ◌∙◌, arith}
 use Rattle.std.proofs.Math.Nat.{max-zero, zero-max}
-use Rattle.std.specs.List.{list_any, range_with_len}
-use Rattle.std.proofs.lemmas.Bool.{eqb-false, eqb-true, ne_eqb}
+use Rattle.std.specs.List.{flat_map, list_any, range_with_len}
+use Rattle.std.specs.Option.{option_map_or}
+use Rattle.std.proofs.lemmas.Bool.{eq-eqb, eqb-false, eqb-true, ne_eqb}
 
 -- what an operation makes of the numbers of several items, 0 where there is none
 abbrev pub total : {A : Type 0} → (ℕ → ℕ → ℕ) → (A → ℕ) → List A → ℕ
@@ -24,6 +26,13 @@ greatest = record { first = zero-max; last = max-zero; swapped = λ a b c d. ome
 
 above : (m a : ℕ) → a ≤ m → m ≢ a → a + 1 ≤ m
 above m a from differ = omega (arith, from, differ)
+
+swapped : (a b : ℕ) (r : Bool) → (a == b) ≡ r → r ≡ (b == a)
+swapped a b true is = sym (eq-eqb b a (sym (eqb-true a b is)))
+swapped a b false is = sym (ne_eqb b a (λ same. eqb-false a b is (sym same)))
+
+eqb-swap : (a b : ℕ) → (a == b) ≡ (b == a)
+eqb-swap a b = swapped a b (a == b) refl
 
 module _ (op : ℕ → ℕ → ℕ) (gathers : IsGathering op) where
   -- ---- items that pass a test
@@ -117,6 +126,61 @@ module _ (op : ℕ → ℕ → ℕ) (gathers : IsGathering op) where
         ∙ over_members (λ k. cond (test k) (f k) 0) n members differ within
         ∙ sym (total-filter (λ member. test (place_of member)) (λ member. f (place_of member)) members)
 
+  -- ---- the items of several owners
+
+  assoc : (a b c : ℕ) → op (op a b) c ≡ op a (op b c)
+  assoc a b c = ap (op (op a b)) (sym (gathers.first c)) ∙ gathers.swapped a b 0 c ∙ ap (λ n. op n (op b c)) (gathers.last a)
+
+  total-append : (f : ℕ → ℕ) (places others : List ℕ) → total op f (places ++ others) ≡ op (total op f places) (total op f others)
+  total-append f [] others = sym (gathers.first (total op f others))
+  total-append f (k ∷ places) others = ap (op (f k)) (total-append f places others) ∙ sym (assoc (f k) (total op f places) (total op f others))
+
+  module _ {A S : Type 0} (owner_of : S → ℕ) (item_at : ℕ → Option S) (place_of : A → ℕ) where
+    -- the item at a place is an owner's, or that of one of several
+    abbrev is_owned : A → ℕ → Bool
+    is_owned owner k = option_map_or (λ item. owner_of item == place_of owner) (item_at k) false
+
+    abbrev is_one_owned : List A → ℕ → Bool
+    is_one_owned owners k = option_map_or (λ item. list_any (λ owner. place_of owner == owner_of item) owners) (item_at k) false
+
+    total-flat : (f : ℕ → ℕ) (places : A → List ℕ) (owners : List A) → total op f (flat_map places owners) ≡ total op (λ owner. total op f (places owner)) owners
+    total-flat f places [] = refl
+    total-flat f places (owner ∷ owners) = total-append f (places owner) (flat_map places owners) ∙ ap (op (total op f (places owner))) (total-flat f places owners)
+
+    owned_by_none : (item : Option S) → option_map_or (λ item. false) item false ≡ false
+    owned_by_none None = refl
+    owned_by_none (Some item) = refl
+
+    first_or_later : (owner : A) (owners : List A) (x : ℕ) (item : Option S) → has place_of owners (place_of owner) ≡ false
+        → cond (option_map_or (λ item. list_any (λ owner. place_of owner == owner_of item) (owner ∷ owners)) item false) x 0
+        ≡ op (cond (option_map_or (λ item. owner_of item == place_of owner) item false) x 0) (cond (option_map_or (λ item. list_any (λ owner. place_of owner == owner_of item) owners) item false) x 0)
+    first_or_later owner owners x None alone = sym (gathers.first 0)
+    first_or_later owner owners x (Some item) alone =
+        either place_of x (place_of owner == owner_of item) (has place_of owners (owner_of item)) (λ is. subst (λ m. has place_of owners m ≡ false) (eqb-true (place_of owner) (owner_of item) is) alone)
+        ∙ ap (λ b. op (cond b x 0) (cond (has place_of owners (owner_of item)) x 0)) (eqb-swap (place_of owner) (owner_of item))
+
+    over_owned : (f : ℕ → ℕ) (places : List ℕ) (owners : List A) → AllPairs (λ a b. a ≢ b) (map place_of owners)
+        → total op (λ k. cond (is_one_owned owners k) (f k) 0) places ≡ total op (λ owner. total op f (filter (is_owned owner) places)) owners
+    over_owned f places [] differ = total-agree (λ k. cond (is_one_owned [] k) (f k) 0) (λ k. 0) (λ k. ap (λ b. cond b (f k) 0) (owned_by_none (item_at k))) places ∙ total-none places
+    over_owned f places (owner ∷ owners) differ =
+        let alone = has-none place_of (place_of owner) 0 owners (λ j below. differ 0 (suc j) 0 (omega arith) (omega arith)) in
+        total-agree (λ k. cond (is_one_owned (owner ∷ owners) k) (f k) 0) (λ k. op (cond (is_owned owner k) (f k) 0) (cond (is_one_owned owners k) (f k) 0))
+        (λ k. first_or_later owner owners (f k) (item_at k) alone) places
+        ∙ total-both (λ k. cond (is_owned owner k) (f k) 0) (λ k. cond (is_one_owned owners k) (f k) 0) places
+        ∙ ap (λ n. op n (total op (λ k. cond (is_one_owned owners k) (f k) 0) places)) (sym (total-filter (is_owned owner) f places))
+        ∙ ap (op (total op f (filter (is_owned owner) places))) (over_owned f places owners (λ i j d before below. differ (suc i) (suc j) d (omega arith) (omega arith)))
+
+    -- of those that pass a test
+    pub over_owned_passing : (test : ℕ → Bool) (f : ℕ → ℕ) (places : List ℕ) (owners : List A) → AllPairs (λ a b. a ≢ b) (map place_of owners)
+        → total op f (filter test (flat_map (λ owner. filter (is_owned owner) places) owners)) ≡ total op f (filter test (filter (is_one_owned owners) places))
+    over_owned_passing test f places owners differ =
+        let passing : ℕ → ℕ = λ k. cond (test k) (f k) 0 in
+        total-filter test f (flat_map (λ owner. filter (is_owned owner) places) owners)
+        ∙ total-flat passing (λ owner. filter (is_owned owner) places) owners
+        ∙ sym (over_owned passing places owners differ)
+        ∙ sym (total-filter (is_one_owned owners) passing places)
+        ∙ sym (total-filter test f (filter (is_one_owned owners) places))
+
 -- ---- the number of items, and the greatest of their numbers
 
 one : {A : Type 0} (test : A → Bool) (item : A) (rest : List A) (b : Bool) → length (cond b (item ∷ rest) rest) ≡ cond b 1 0 + length rest
@@ -154,3 +218,25 @@ module _ {A : Type 0} (place_of : A → ℕ) (test : ℕ → Bool) (n : ℕ) (me
       greatest-total (λ member. number (place_of member)) (filter (λ member. test (place_of member)) members)
       ∙ sym (over_passing max greatest place_of test number n members differ within)
       ∙ sym (greatest-total number those)
+
+-- ---- the items of several owners
+
+module _ {A S : Type 0} (owner_of : S → ℕ) (item_at : ℕ → Option S) (place_of : A → ℕ) (test : ℕ → Bool) (places : List ℕ) (owners : List A) (differ : AllPairs (λ a b. a ≢ b) (map place_of owners)) where
+  -- owner by owner, and in the order of their places
+  abbrev by_owner : List ℕ
+  by_owner = filter test (flat_map (λ owner. filter (λ k. option_map_or (λ item. owner_of item == place_of owner) (item_at k) false) places) owners)
+
+  abbrev by_place : List ℕ
+  by_place = filter test (filter (λ k. option_map_or (λ item. list_any (λ owner. place_of owner == owner_of item) owners) (item_at k) false) places)
+
+  pub number_over_owned : (counted : ℕ → Bool) → length (filter counted by_owner) ≡ length (filter counted by_place)
+  number_over_owned counted =
+      length-total counted by_owner
+      ∙ over_owned_passing (λ a b. a + b) sums owner_of item_at place_of test (λ k. cond (counted k) 1 0) places owners differ
+      ∙ sym (length-total counted by_place)
+
+  pub greatest_over_owned : (number : ℕ → ℕ) → fold max 0 (map number by_owner) ≡ fold max 0 (map number by_place)
+  greatest_over_owned number =
+      greatest-total number by_owner
+      ∙ over_owned_passing max greatest owner_of item_at place_of test number places owners differ
+      ∙ sym (greatest-total number by_place)

@@ -1,7 +1,7 @@
 pub mod Cells
 pub mod Counts
 pub mod Severity
-pub mod Marks
+pub mod Hosts
 pub mod Distinct
 pub mod Names
 pub mod Plain

@@ -8,26 +8,22 @@ ghost use Rattle.lq_columns.specs.Counts.{worst_of, worst_service};
 ghost use Rattle.lq_columns.specs.Severity.{host_severity, severity_at};
 
 use crate::counted::{Counted, counts_at};
-use crate::members::{count_in_group, worst_in_group};
 use crate::scope::Scope;
-use crate::selection::{Hosts, Selection, members_of_hosts};
+use crate::seen::{SeenServices, members_of_hosts};
 use crate::severity::{host_severity_at, host_state_by};
 use lq_auth::View;
 use lq_events::Status;
 use lq_live::Live;
 use lq_records::{HostGroupId, HostId};
 use lq_schema::{HostCounter, ServiceCounter, Val};
-use std::alloc::Global;
 
 // ---- services
 
 /// The value of a counter over the services of a host, of the hosts in a group, or in a group, as
 /// far as they are seen: how many there are, how many were never checked, how many of the others
-/// are in a state, and the worst state of all. 0 where there is no such host or group. The hosts
-/// that a group lists are marked once a cell where memory allows; without it the value is the same,
-/// and takes longer. Of a group of services the members are walked, which takes no memory.
+/// are in a state, and the worst state of all. 0 where there is no such host or group. It takes no
+/// memory, and looks at the services of the scope alone.
 pub fn services_value(
-    alloc: Global,
     live: &Live,
     view: &View,
     scope: Scope,
@@ -36,59 +32,27 @@ pub fn services_value(
     ensures { meaning_of result ≡ services_cell live.now.state view.now scope column }
 {
     match column {
-        ServiceCounter::NumServices => services_in(alloc, live, view, scope, Counted::All),
-        ServiceCounter::NumServicesOk => services_in(alloc, live, view, scope, Counted::In(0)),
-        ServiceCounter::NumServicesWarn => services_in(alloc, live, view, scope, Counted::In(1)),
-        ServiceCounter::NumServicesCrit => services_in(alloc, live, view, scope, Counted::In(2)),
-        ServiceCounter::NumServicesUnknown => services_in(alloc, live, view, scope, Counted::In(3)),
-        ServiceCounter::NumServicesPending => services_in(
-            alloc,
-            live,
-            view,
-            scope,
-            Counted::Pending,
-        ),
-        ServiceCounter::WorstServiceState => worst_service(alloc, live, view, scope),
+        ServiceCounter::NumServices => services_in(live, view, scope, Counted::All),
+        ServiceCounter::NumServicesOk => services_in(live, view, scope, Counted::In(0)),
+        ServiceCounter::NumServicesWarn => services_in(live, view, scope, Counted::In(1)),
+        ServiceCounter::NumServicesCrit => services_in(live, view, scope, Counted::In(2)),
+        ServiceCounter::NumServicesUnknown => services_in(live, view, scope, Counted::In(3)),
+        ServiceCounter::NumServicesPending => services_in(live, view, scope, Counted::Pending),
+        ServiceCounter::WorstServiceState => worst_service(live, view, scope),
     }
 }
 
-fn services_in(
-    alloc: Global,
-    live: &Live,
-    view: &View,
-    scope: Scope,
-    which: Counted,
-) -> Val<'static>
+fn services_in(live: &Live, view: &View, scope: Scope, which: Counted) -> Val<'static>
     ensures { meaning_of result
         ≡ natural (services_counted live.now.state view.now scope which) }
 {
-    let statuses = live.service_statuses();
-    let count = match scope {
-        Scope::Host(id) => {
-            Selection::new(alloc, live.base(), view, Hosts::One(id)).count(statuses, which)
-        }
-        Scope::HostGroup(group) => {
-            Selection::new(alloc, live.base(), view, Hosts::Listed(group)).count(statuses, which)
-        }
-        Scope::ServiceGroup(group) => count_in_group(live.base(), statuses, view, group, which),
-    };
-    Val::Int(count as i128)
+    Val::Int(SeenServices::of(live, view).count(scope, which) as i128)
 }
 
-fn worst_service(alloc: Global, live: &Live, view: &View, scope: Scope) -> Val<'static>
+fn worst_service(live: &Live, view: &View, scope: Scope) -> Val<'static>
     ensures { meaning_of result ≡ natural (worst_service live.now.state view.now scope) }
 {
-    let statuses = live.service_statuses();
-    let worst = match scope {
-        Scope::Host(id) => {
-            Selection::new(alloc, live.base(), view, Hosts::One(id)).worst(statuses)
-        }
-        Scope::HostGroup(group) => {
-            Selection::new(alloc, live.base(), view, Hosts::Listed(group)).worst(statuses)
-        }
-        Scope::ServiceGroup(group) => worst_in_group(live.base(), statuses, view, group),
-    };
-    Val::Int(i128::from(worst))
+    Val::Int(i128::from(SeenServices::of(live, view).worst(scope)))
 }
 
 // ---- hosts

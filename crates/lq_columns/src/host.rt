@@ -142,7 +142,7 @@ impl<'a> HostRow<'a> {
             HostColumn::Services => Val::List(descriptions(alloc, base, view, self.id)?),
             HostColumn::Status(column) => object.status_value(alloc, column)?,
             HostColumn::Counter(column) => {
-                services_value(alloc, live, view, Scope::Host(self.id), column)
+                services_value(live, view, Scope::Host(self.id), column)
             }
         })
     }

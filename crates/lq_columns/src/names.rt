@@ -1,5 +1,6 @@
-ghost use Rattle.std.specs.Prelude.{◌≡◌, ◌++◌, ◌<◌, ◌^◌, ℕ, IfOk, List, OnOk, Option, filter_map};
+ghost use Rattle.std.specs.Prelude.{◌≡◌, ◌++◌, ◌<◌, ◌^◌, ℕ, IfOk, List, OnOk, Option, filter, filter_map};
 ghost use Rattle.std.specs.Prelude.{length, map, option_to_list};
+ghost use Rattle.lq_auth.specs.Rights.{sees_service};
 ghost use Rattle.lq_records.specs.Places.{field_at};
 ghost use Rattle.lq_records.specs.declared.base.Base.{Base};
 ghost use Rattle.std.specs.Option.{option_copied};
@@ -9,7 +10,6 @@ ghost use Rattle.lq_columns.specs.Names.{name_of_contact, name_with_host, name_w
 ghost use Rattle.lq_columns.specs.Names.{parent_names_of, seen_children, seen_services};
 ghost use Rattle.lq_columns.specs.Names.{variable_names_of, variable_values_of, without_underscore};
 
-use crate::selection::is_service_of;
 use lq_auth::View;
 use lq_records::{
     Base, ContactGroupId, ContactId, Host, HostGroup, HostId, Items, Memory, Object, ObjectFields,
@@ -238,25 +238,32 @@ pub(crate) fn descriptions(
     view: &View,
     id: HostId,
 ) -> Result<Items<Text>, Memory>
-    requires few { length base.now.services < 2 ^ 32 }
     ensures { IfOk result (λ names. names ≡ descriptions_of base.now view.now id) }
 {
     let services = seen_services(alloc, base, view, id)?;
     names_of(alloc, base, &services)
 }
 
+#[tactic(auto, using(crate::proofs::HostServices::seen_by_their_places))]
 fn seen_services(
     alloc: Global,
     base: &Base,
     view: &View,
     id: HostId,
 ) -> Result<Vec<ServiceId>, Memory>
-    requires few { length base.now.services < 2 ^ 32 }
     ensures { IfOk result (λ ids. ids.items ≡ seen_services base.now view.now id) }
 {
-    (0..base.services.len() as u32)
-        .map(ServiceId)
-        .filter(|service| is_service_of(base, id, service.0 as usize))
+    seen_at(alloc, view, base.services.owned_by(id.0))
+}
+
+/// The services at some places that are seen.
+fn seen_at(alloc: Global, view: &View, places: &[u32]) -> Result<Vec<ServiceId>, Memory>
+    ensures { IfOk result (λ ids. ids.items
+        ≡ filter (sees_service view.now) (map (λ place. record { 0 = place }) places.now)) }
+{
+    places
+        .iter()
+        .map(|place| ServiceId(*place))
         .filter(|service| view.sees_service(*service))
         .collect(alloc)
 }

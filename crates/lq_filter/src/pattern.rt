@@ -50,8 +50,8 @@ impl Pattern {
     pub fn ready(&self, alloc: Global) -> Result<ReadyPattern<'_>, Memory>
         ensures { IfOk result (λ ready. ready ≡ self.now) }
     {
-        // A matcher keeps caches of 40 MB and more, by its library's own account. So it is made once
-        // for all rows of a query.
+        // A matcher keeps caches of 40 MB and more, by its library's own account. So it is made
+        // once for all rows of a query.
         let matcher = self.regex.matcher(alloc)?;
         Ok(ReadyPattern {
             pattern: self,

@@ -16,7 +16,8 @@ use std::sync::ledger::Ledger;
 /// 13, so that a line with it would not be read again.
 pub const TIME_LIMIT: u64 = 1_000_000_000_000;
 
-/// The most entries of a book. One more is refused, as if there were no memory for it.
+/// The most entries of a book, far more than there is memory for: so a place in it and a count of
+/// its entries never overflow. One more is refused, as if there were no memory for it.
 const MOST_ENTRIES: usize = 1 << 40;
 
 /// The entries of a log. A line gives each of them, and none is earlier than the one before.

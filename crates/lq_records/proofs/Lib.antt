@@ -1,3 +1,4 @@
 pub mod CleanLemmas
 pub mod Contacts
 pub mod NameLemmas
+pub mod OwnedLemmas

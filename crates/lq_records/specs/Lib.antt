@@ -4,6 +4,7 @@ pub mod Formats
 pub mod Items
 pub mod Micros
 pub mod Object
+pub mod Owned
 pub mod Places
 pub mod Shares
 pub mod Sound

@@ -12,6 +12,7 @@ mod monitored;
 mod name_query;
 mod named;
 mod object;
+mod owned;
 mod refusal;
 mod text;
 

@@ -4,6 +4,7 @@ ghost use Rattle.std.specs.List.{slice_get};
 ghost use Rattle.std.specs.Option.{option_copied, option_map};
 ghost use Rattle.lq_records.specs.Contacts.{AreListsOf, IsIndexOf, lists_of};
 ghost use Rattle.lq_records.specs.Named.{host_named, service_named};
+ghost use Rattle.lq_records.specs.Owned.{owned_places};
 ghost use Rattle.lq_records.specs.declared.base.ObjectFields.{ObjectFields};
 ghost use Rattle.lq_records.specs.declared.monitored.ContactLists.{ContactLists};
 
@@ -12,6 +13,7 @@ use crate::base::{Host, ObjectFields, Service};
 use crate::ids::{ContactGroupId, ContactId, HostId, ServiceId};
 use crate::items::Items;
 use crate::named::{NamedItems, NamedObject};
+use crate::owned::lists_by_owner;
 use crate::text::Text;
 use std::alloc::{AllocError, Global};
 use std::marker::Model;
@@ -104,6 +106,8 @@ pub struct MonitoredItems<T: MonitoredObject> {
     items: NamedItems<T>,
     contacts: Gathered,
     owners: Vec<u32>,
+    /// For each owner, the places of its items.
+    owned: Vec<Items<u32>>,
 }
 
 // Written by hand: where one is dropped a proof then meets a call, and not each of the fields.
@@ -113,6 +117,7 @@ impl<T: MonitoredObject + Drop> Drop for MonitoredItems<T> {
             items: _items,
             contacts: _contacts,
             owners: _owners,
+            owned: _owned,
         } = self;
     }
 }
@@ -120,6 +125,7 @@ impl<T: MonitoredObject + Drop> Drop for MonitoredItems<T> {
 impl<T: MonitoredObject> Model for MonitoredItems<T> {
     ghost use Rattle.std.specs.Prelude.{◌≡◌, List, map};
     ghost use Rattle.lq_records.specs.Contacts.{AreListsOf, lists_of};
+    ghost use Rattle.lq_records.specs.Owned.{AreOwned};
 
     ghost Value = { List T };
 
@@ -128,7 +134,8 @@ impl<T: MonitoredObject> Model for MonitoredItems<T> {
     ghost invariant = { λ list.
         AreListsOf list.contacts.lists.items list.contacts.places.items
         (map (λ item. lists_of (T.fields_of item)) list.items)
-        × (list.owners.items ≡ map T.owner_of list.items) };
+        × (list.owners.items ≡ map T.owner_of list.items)
+        × AreOwned T.owner_of list.items list.owned.items };
 }
 
 impl<T: MonitoredObject> MonitoredItems<T> {
@@ -140,10 +147,12 @@ impl<T: MonitoredObject> MonitoredItems<T> {
     {
         let contacts = gather(alloc, items.as_slice())?;
         let owners = owners_of(alloc, items.as_slice())?;
+        let owned = lists_by_owner(alloc, items.as_slice())?;
         Ok(MonitoredItems {
             items,
             contacts,
             owners,
+            owned,
         })
     }
 
@@ -187,6 +196,16 @@ impl<T: MonitoredObject> MonitoredItems<T> {
             lists: &self.contacts.lists,
             places: &self.contacts.places,
             owners: &self.owners,
+        }
+    }
+
+    /// The places of the items that an owner has, in order: of a host, those of its services.
+    pub fn owned_by(&self, owner: u32) -> &[u32]
+        ensures { result.now ≡ owned_places T.owner_of self.now owner }
+    {
+        match self.owned.get(owner as usize) {
+            Some(places) => places.as_slice(),
+            None => &[],
         }
     }
 }

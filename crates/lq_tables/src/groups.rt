@@ -125,7 +125,7 @@ pub(crate) fn host_group_value<'a>(
         HostGroupColumn::Members => seen_hosts(alloc, live, view, group),
         HostGroupColumn::Hosts(column) => Ok(hosts_value(live, view, id, column)),
         HostGroupColumn::Services(column) => {
-            Ok(services_value(alloc, live, view, Scope::HostGroup(id), column))
+            Ok(services_value(live, view, Scope::HostGroup(id), column))
         }
     }
 }
@@ -202,7 +202,7 @@ pub(crate) fn service_group_value<'a>(
         ServiceGroupColumn::ActionUrl => Ok(Val::Str(group.action_url.as_str())),
         ServiceGroupColumn::Members => seen_services(alloc, live, view, group),
         ServiceGroupColumn::Services(column) => {
-            Ok(services_value(alloc, live, view, Scope::ServiceGroup(id), column))
+            Ok(services_value(live, view, Scope::ServiceGroup(id), column))
         }
     }
 }

@@ -4,7 +4,7 @@ ghost use Rattle.std.specs.List.{flat_map, range_with_len};
 ghost use Rattle.lq_live.specs.Ids.{HasRisingIds};
 ghost use Rattle.lq_schema.specs.declared.columns.Table.TheVariants as table;
 ghost use Rattle.lq_tables.specs.Rows.{group_service_rows, has_line_within, host_group_rows};
-ghost use Rattle.lq_tables.specs.Rows.{is_history, is_within, with_places, places_of, runs_on};
+ghost use Rattle.lq_tables.specs.Rows.{is_history, is_within, with_places, places_of};
 ghost use Rattle.lq_tables.specs.Rows.{service_group_rows, service_rows, table_rows};
 ghost use Rattle.lq_tables.specs.Schema.{schema};
 ghost use Rattle.lq_tables.specs.declared.row.Row.TheVariants as row;
@@ -16,7 +16,8 @@ use crate::window::Window;
 use lq_events::{Comment, Downtime, LogEntry};
 use lq_live::Live;
 use lq_records::{
-    HostGroup, HostGroupId, HostId, Memory, Service, ServiceGroup, ServiceGroupId, ServiceId,
+    HostGroup, HostGroupId, HostId, Memory, MonitoredItems, Service, ServiceGroup, ServiceGroupId,
+    ServiceId,
 };
 use lq_schema::Table;
 use std::alloc::Global;
@@ -55,11 +56,9 @@ pub(crate) fn listed_rows(
         Table::Columns => column_rows(alloc)?,
         Table::HostsByGroup => hosts_by_group(alloc, base.host_groups.as_slice())?,
         Table::ServicesByGroup => services_by_group(alloc, base.service_groups.as_slice())?,
-        Table::ServicesByHostGroup => services_by_host_group(
-            alloc,
-            base.services.as_slice(),
-            base.host_groups.as_slice(),
-        )?,
+        Table::ServicesByHostGroup => {
+            services_by_host_group(alloc, &base.services, base.host_groups.as_slice())?
+        }
         Table::StateHist => return Ok(None),
     };
     Ok(Some(rows))
@@ -182,18 +181,16 @@ fn push_services(
 
 fn services_by_host_group(
     alloc: Global,
-    services: &[Service],
+    services: &MonitoredItems<Service>,
     groups: &[HostGroup],
 ) -> Result<Vec<Row>, Memory>
-    requires few { length services.now < 2 ^ 32 }
-    requires few_groups { length groups.now < 2 ^ 32 }
+    requires few { length groups.now < 2 ^ 32 }
     ensures { IfOk result (λ rows.
         rows.items ≡ flat_map (group_service_rows services.now) (with_places groups.now)) }
 {
     let mut rows = Vec::new(alloc);
     for (place, group) in groups.iter().enumerate() {
         push_services_of(
-            alloc,
             &mut rows,
             services,
             HostGroupId(place as u32),
@@ -204,45 +201,40 @@ fn services_by_host_group(
 }
 
 fn push_services_of(
-    alloc: Global,
     rows: &mut Vec<Row>,
-    services: &[Service],
+    services: &MonitoredItems<Service>,
     group: HostGroupId,
     members: &[HostId],
 ) -> Result<(), Memory>
-    requires few { length services.now < 2 ^ 32 }
     ensures { OnOk result (rows.new.items
         ≡ rows.old.items ++ flat_map (service_rows services.now group) members.now) }
 {
     for host in members {
-        let mut found = services_of(alloc, services, group, *host)?;
-        rows.append(&mut found)?;
+        push_host(rows, services, group, *host)?;
     }
     Ok(())
 }
 
-/// The rows of a host's services.
-fn services_of(
-    alloc: Global,
-    services: &[Service],
+/// Adds the rows of a host's services.
+fn push_host(
+    rows: &mut Vec<Row>,
+    services: &MonitoredItems<Service>,
     group: HostGroupId,
     host: HostId,
-) -> Result<Vec<Row>, Memory>
-    requires few { length services.now < 2 ^ 32 }
-    ensures { IfOk result (λ rows. rows.items ≡ service_rows services.now group host) }
+) -> Result<(), Memory>
+    ensures { OnOk result (rows.new.items
+        ≡ rows.old.items ++ service_rows services.now group host) }
 {
-    (0..services.len() as u32)
-        .filter(|place| runs_on(services, host, *place))
-        .map(|place| Row::GroupService(group, ServiceId(place)))
-        .collect(alloc)
+    push_places(rows, group, services.owned_by(host.0))
 }
 
-/// Whether the service at a place runs on a host.
-fn runs_on(services: &[Service], host: HostId, place: u32) -> bool
-    ensures { result ≡ runs_on services.now host place }
+/// Adds the rows of the services at some places.
+fn push_places(rows: &mut Vec<Row>, group: HostGroupId, places: &[u32]) -> Result<(), Memory>
+    ensures { OnOk result (rows.new.items ≡ rows.old.items
+        ++ map (λ place. row.GroupService group (record { 0 = place })) places.now) }
 {
-    match services.get(place as usize) {
-        Some(service) => service.host.0 == host.0,
-        None => false,
+    for place in places {
+        rows.push(Row::GroupService(group, ServiceId(*place)))?;
     }
+    Ok(())
 }
