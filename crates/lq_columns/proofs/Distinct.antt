@@ -46,10 +46,10 @@ lacks_both found id other true stands = stands_too found id other (id.0 == other
 lacks_both found id other false stands =
     ap not (list_any-append (λ one. one.0 == other.0) found (id ∷ [])) ∙ neither (stands_in found other) (id.0 == other.0)
 
-behind : (found : List ContactId) → (id : ContactId) → (kept : List ContactId) → (b : Bool)
+after : (found : List ContactId) → (id : ContactId) → (kept : List ContactId) → (b : Bool)
     → (if b then found else found ++ id ∷ []) ++ kept ≡ found ++ cond (not b) (id ∷ kept) kept
-behind found id kept true = refl
-behind found id kept false = append_assoc found (id ∷ []) kept
+after found id kept true = refl
+after found id kept false = append_assoc found (id ∷ []) kept
 
 pub with_new-cons : (found : List ContactId) → (id : ContactId) → (ids : List ContactId) → with_new (with_one found id) ids ≡ with_new found (id ∷ ids)
 with_new-cons found id ids =
@@ -57,7 +57,7 @@ with_new-cons found id ids =
     (filter_agree (λ other. not (stands_in (with_one found id) other)) (λ other. not (id.0 == other.0) && not (stands_in found other))
     (λ other. lacks_both found id other (stands_in found id) refl) (first_of_each ids)
     ∙ sym (filter-filter (λ other. not (stands_in found other)) (λ other. not (id.0 == other.0)) (first_of_each ids)))
-    ∙ behind found id (filter (λ other. not (stands_in found other)) (filter (λ other. not (id.0 == other.0)) (first_of_each ids))) (stands_in found id)
+    ∙ after found id (filter (λ other. not (stands_in found other)) (filter (λ other. not (id.0 == other.0)) (first_of_each ids))) (stands_in found id)
 
 -- ---- lists
 

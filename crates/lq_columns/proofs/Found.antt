@@ -24,14 +24,14 @@ module _ {A : Type 0} (name_of : A → Option (List ℕ)) (text : List ℕ) wher
   found_by_name [] = refl
   found_by_name (id ∷ ids) = found_first (name_of id) (filter_map name_of ids) ∙ ap (λ found. has_own_name text (name_of id) || found) (found_by_name ids)
 
-  found_behind : (front back : List A) → has_text text (filter_map name_of (front ++ back)) ≡ (has_text text (filter_map name_of front) || has_text text (filter_map name_of back))
-  found_behind front back =
+  found_after : (front back : List A) → has_text text (filter_map name_of (front ++ back)) ≡ (has_text text (filter_map name_of front) || has_text text (filter_map name_of back))
+  found_after front back =
       ap (has_text text) (filter_map-append name_of front back) ∙ list_any-append (λ element. bytes_eq element text) (filter_map name_of front) (filter_map name_of back)
 
   found_in_lists : {G : Type 0} (items : G → List A) (groups : List G) → has_text text (filter_map name_of (flat_map items groups)) ≡ list_any (λ group. has_text text (filter_map name_of (items group))) groups
   found_in_lists items [] = refl
   found_in_lists items (group ∷ groups) =
-      found_behind (items group) (flat_map items groups) ∙ ap (λ found. has_text text (filter_map name_of (items group)) || found) (found_in_lists items groups)
+      found_after (items group) (flat_map items groups) ∙ ap (λ found. has_text text (filter_map name_of (items group)) || found) (found_in_lists items groups)
 
 -- ---- repeats
 
@@ -60,5 +60,5 @@ contact_found base fields text =
     found_by_name name text (contacts_of base fields)
     ∙ found_once (λ id. has_own_name text (name id)) (fields.contacts ++ further)
     ∙ sym (found_by_name name text (fields.contacts ++ further))
-    ∙ found_behind name text fields.contacts further
+    ∙ found_after name text fields.contacts further
     ∙ ap (λ found. has_text text (contact_names_of base fields.contacts) || found) (found_in_lists name text (members_of base) fields.contact_groups)

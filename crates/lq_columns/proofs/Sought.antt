@@ -35,7 +35,7 @@ module _ (contacts : List Contact) (different : AllPairs (λ a b. a ≢ b) (map 
       elim (cases_order first second) [
         | inl is ↦ is
         | inr (inl before) ↦ absurd (other_name first second contact before second_within same)
-        | inr (inr behind) ↦ absurd (other_name second first contact behind first_within (sym same))
+        | inr (inr after) ↦ absurd (other_name second first contact after first_within (sym same))
       ]
 
   pub named_at : (place : ℕ) (contact : Contact) → place < length contacts → bytes_eq (get_or contacts place contact).contact_name name ≡ true

@@ -4,11 +4,7 @@ ghost use Rattle.lq_auth.specs.Rights.{sees_service};
 ghost use Rattle.lq_records.specs.Places.{field_at};
 ghost use Rattle.lq_records.specs.declared.base.Base.{Base};
 ghost use Rattle.std.specs.Option.{option_copied};
-ghost use Rattle.lq_columns.specs.Names.{child_names_of, descriptions_of, group_names_of, has_host};
-ghost use Rattle.lq_columns.specs.Names.{has_service, has_text, is_child_of, has_own_name};
-ghost use Rattle.lq_columns.specs.Names.{name_of_contact, name_with_host, name_with_service};
-ghost use Rattle.lq_columns.specs.Names.{parent_names_of, seen_children, seen_services};
-ghost use Rattle.lq_columns.specs.Names.{variable_names_of, variable_values_of, without_underscore};
+ghost use Rattle.lq_columns.specs.Names as Spec;
 
 use lq_auth::View;
 use lq_records::{
@@ -52,7 +48,7 @@ impl Named for ServiceId {
 }
 
 impl Named for ContactId {
-    ghost name_of = { name_of_contact };
+    ghost name_of = { Spec.name_of_contact };
 
     fn name(self, base: &Base) -> Option<&Text> {
         match base.contacts.as_slice().get(self.0 as usize) {
@@ -88,13 +84,13 @@ pub fn names_of<I: Named>(alloc: Global, base: &Base, ids: &[I]) -> Result<Items
 
 /// Whether one of some objects has a name.
 pub(crate) fn has_name<I: Named>(base: &Base, ids: &[I], name: &str) -> bool
-    ensures { result ≡ has_text name.now (filter_map (I.name_of base.now) ids.now) }
+    ensures { result ≡ Spec.has_text name.now (filter_map (I.name_of base.now) ids.now) }
 {
     ids.iter().any(|id| has_own_name(base, *id, name))
 }
 
 fn has_own_name<I: Named>(base: &Base, id: I, name: &str) -> bool
-    ensures { result ≡ has_own_name name.now (I.name_of base.now id) }
+    ensures { result ≡ Spec.has_own_name name.now (I.name_of base.now id) }
 {
     match id.name(base) {
         Some(own) => own.as_str() == name,
@@ -116,7 +112,7 @@ fn push_name(alloc: Global, names: &mut Items<Text>, name: Option<&Text>) -> Res
 
 /// The names of the groups that list an object.
 pub(crate) fn group_names(alloc: Global, base: &Base, about: Object) -> Result<Items<Text>, Memory>
-    ensures { IfOk result (λ names. names ≡ group_names_of base.now about) }
+    ensures { IfOk result (λ names. names ≡ Spec.group_names_of base.now about) }
 {
     match about {
         Object::Host(id) => names_with_host(alloc, base.host_groups.as_slice(), id),
@@ -125,7 +121,7 @@ pub(crate) fn group_names(alloc: Global, base: &Base, about: Object) -> Result<I
 }
 
 fn names_with_host(alloc: Global, groups: &[HostGroup], id: HostId) -> Result<Items<Text>, Memory>
-    ensures { IfOk result (λ names. names ≡ filter_map (name_with_host id) groups.now) }
+    ensures { IfOk result (λ names. names ≡ filter_map (Spec.name_with_host id) groups.now) }
 {
     let mut names = Items::default();
     for group in groups {
@@ -135,7 +131,7 @@ fn names_with_host(alloc: Global, groups: &[HostGroup], id: HostId) -> Result<It
 }
 
 fn name_with_host(group: &HostGroup, id: HostId) -> Option<&Text>
-    ensures { option_copied result ≡ name_with_host id group.now }
+    ensures { option_copied result ≡ Spec.name_with_host id group.now }
 {
     if has_host(group.members.as_slice(), id) {
         Some(&group.hostgroup_name)
@@ -146,7 +142,7 @@ fn name_with_host(group: &HostGroup, id: HostId) -> Option<&Text>
 
 /// Whether a list has a host.
 pub(crate) fn has_host(members: &[HostId], id: HostId) -> bool
-    ensures { result ≡ has_host members.now id }
+    ensures { result ≡ Spec.has_host members.now id }
 {
     members.iter().any(|member| member.0 == id.0)
 }
@@ -156,7 +152,7 @@ fn names_with_service(
     groups: &[ServiceGroup],
     id: ServiceId,
 ) -> Result<Items<Text>, Memory>
-    ensures { IfOk result (λ names. names ≡ filter_map (name_with_service id) groups.now) }
+    ensures { IfOk result (λ names. names ≡ filter_map (Spec.name_with_service id) groups.now) }
 {
     let mut names = Items::default();
     for group in groups {
@@ -166,7 +162,7 @@ fn names_with_service(
 }
 
 fn name_with_service(group: &ServiceGroup, id: ServiceId) -> Option<&Text>
-    ensures { option_copied result ≡ name_with_service id group.now }
+    ensures { option_copied result ≡ Spec.name_with_service id group.now }
 {
     if has_service(group.members.as_slice(), id) {
         Some(&group.servicegroup_name)
@@ -176,7 +172,7 @@ fn name_with_service(group: &ServiceGroup, id: ServiceId) -> Option<&Text>
 }
 
 fn has_service(members: &[ServiceId], id: ServiceId) -> bool
-    ensures { result ≡ has_service members.now id }
+    ensures { result ≡ Spec.has_service members.now id }
 {
     members.iter().any(|member| member.0 == id.0)
 }
@@ -191,7 +187,7 @@ pub(crate) fn child_names(
     id: HostId,
 ) -> Result<Items<Text>, Memory>
     requires few { length base.now.hosts < 2 ^ 32 }
-    ensures { IfOk result (λ names. names ≡ child_names_of base.now view.now id) }
+    ensures { IfOk result (λ names. names ≡ Spec.child_names_of base.now view.now id) }
 {
     let children = seen_children(alloc, base, view, id)?;
     names_of(alloc, base, &children)
@@ -199,7 +195,7 @@ pub(crate) fn child_names(
 
 fn seen_children(alloc: Global, base: &Base, view: &View, id: HostId) -> Result<Vec<HostId>, Memory>
     requires few { length base.now.hosts < 2 ^ 32 }
-    ensures { IfOk result (λ ids. ids.items ≡ seen_children base.now view.now id) }
+    ensures { IfOk result (λ ids. ids.items ≡ Spec.seen_children base.now view.now id) }
 {
     (0..base.hosts.len() as u32)
         .map(HostId)
@@ -210,7 +206,7 @@ fn seen_children(alloc: Global, base: &Base, view: &View, id: HostId) -> Result<
 
 /// Whether a host names another one as parent.
 fn is_child_of(base: &Base, id: HostId, child: HostId) -> bool
-    ensures { result ≡ is_child_of base.now id child }
+    ensures { result ≡ Spec.is_child_of base.now id child }
 {
     match base.hosts.as_slice().get(child.0 as usize) {
         Some(host) => has_host(host.parents.as_slice(), id),
@@ -225,7 +221,7 @@ pub(crate) fn parent_names(
     view: &View,
     host: &Host,
 ) -> Result<Items<Text>, Memory>
-    ensures { IfOk result (λ names. names ≡ parent_names_of base.now view.now host.now) }
+    ensures { IfOk result (λ names. names ≡ Spec.parent_names_of base.now view.now host.now) }
 {
     let parents = view.seen_of(alloc, host.parents.as_slice())?;
     names_of(alloc, base, &parents)
@@ -238,7 +234,7 @@ pub(crate) fn descriptions(
     view: &View,
     id: HostId,
 ) -> Result<Items<Text>, Memory>
-    ensures { IfOk result (λ names. names ≡ descriptions_of base.now view.now id) }
+    ensures { IfOk result (λ names. names ≡ Spec.descriptions_of base.now view.now id) }
 {
     let services = seen_services(alloc, base, view, id)?;
     names_of(alloc, base, &services)
@@ -251,7 +247,7 @@ fn seen_services(
     view: &View,
     id: HostId,
 ) -> Result<Vec<ServiceId>, Memory>
-    ensures { IfOk result (λ ids. ids.items ≡ seen_services base.now view.now id) }
+    ensures { IfOk result (λ ids. ids.items ≡ Spec.seen_services base.now view.now id) }
 {
     seen_at(alloc, view, base.services.owned_by(id.0))
 }
@@ -271,7 +267,7 @@ fn seen_at(alloc: Global, view: &View, places: &[u32]) -> Result<Vec<ServiceId>,
 // ---- custom variables
 
 pub(crate) fn variable_names(alloc: Global, fields: &ObjectFields) -> Result<Items<Text>, Memory>
-    ensures { IfOk result (λ names. names ≡ variable_names_of fields.now) }
+    ensures { IfOk result (λ names. names ≡ Spec.variable_names_of fields.now) }
 {
     let mut names = Items::default();
     let variables = fields.custom_variables.as_slice();
@@ -284,7 +280,7 @@ pub(crate) fn variable_names(alloc: Global, fields: &ObjectFields) -> Result<Ite
 
 /// A name without the underscore that it begins with.
 fn without_underscore(name: &str) -> &str
-    ensures { result.now ≡ without_underscore name.now }
+    ensures { result.now ≡ Spec.without_underscore name.now }
 {
     match name.strip_prefix("_") {
         Some(rest) => rest,
@@ -293,7 +289,7 @@ fn without_underscore(name: &str) -> &str
 }
 
 pub(crate) fn variable_values(alloc: Global, fields: &ObjectFields) -> Result<Items<Text>, Memory>
-    ensures { IfOk result (λ values. values ≡ variable_values_of fields.now) }
+    ensures { IfOk result (λ values. values ≡ Spec.variable_values_of fields.now) }
 {
     let mut values = Items::default();
     let variables = fields.custom_variables.as_slice();

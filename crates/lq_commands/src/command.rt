@@ -1,7 +1,5 @@
 ghost use Rattle.std.specs.Prelude.{◌≡◌, IfOk};
-ghost use Rattle.lq_commands.specs.Commands.{acknowledgement, acknowledgement_act, act_by, act_in};
-ghost use Rattle.lq_commands.specs.Commands.{act_of, check_result, check_result_act, comment};
-ghost use Rattle.lq_commands.specs.Commands.{comment_act, downtime, downtime_act, short_act_by};
+ghost use Rattle.lq_commands.specs.Commands as Spec;
 ghost use Rattle.lq_commands.specs.Reading.{GivesValue};
 
 use crate::field::{FieldErr, Fields};
@@ -13,7 +11,7 @@ use std::alloc::{AllocError, Global};
 /// What a command does. One with an unknown word or a faulty field does nothing.
 #[tactic(auto, unfolding(crate::specs::Commands::act_of))]
 pub(crate) fn act_of(alloc: Global, base: &Base, text: &str) -> Result<Act, Memory>
-    ensures { IfOk result (λ act. act ≡ act_of base.now text.now) }
+    ensures { IfOk result (λ act. act ≡ Spec.act_of base.now text.now) }
 {
     let mut fields = Fields::of(alloc, base, text);
     match act_in(&mut fields) {
@@ -26,7 +24,7 @@ pub(crate) fn act_of(alloc: Global, base: &Base, text: &str) -> Result<Act, Memo
 /// What a command does, by its fields, of which the first is its word.
 #[tactic(auto, unfolding(crate::specs::Commands::act_in))]
 fn act_in(fields: &mut Fields) -> Result<Act, FieldErr>
-    ensures { GivesValue result (act_in fields.old) }
+    ensures { GivesValue result (Spec.act_in fields.old) }
 {
     let word = fields.next().ok_or(FieldErr::Faulty)?;
     act_by(word, fields)
@@ -35,7 +33,7 @@ fn act_in(fields: &mut Fields) -> Result<Act, FieldErr>
 /// What a command does, by its word and the fields after it.
 #[tactic(auto, unfolding(crate::specs::Commands::act_by, crate::specs::Commands::short_act_by))]
 fn act_by(word: &str, rest: &mut Fields) -> Result<Act, FieldErr>
-    ensures { GivesValue result (act_by word.now rest.old) }
+    ensures { GivesValue result (Spec.act_by word.now rest.old) }
 {
     use ObjectKind::{Host, Service};
     match word {
@@ -55,7 +53,7 @@ fn act_by(word: &str, rest: &mut Fields) -> Result<Act, FieldErr>
 /// the fields after it.
 #[tactic(auto, unfolding(crate::specs::Commands::short_act_by))]
 fn short_act_by(word: &str, rest: &mut Fields) -> Result<Act, FieldErr>
-    ensures { GivesValue result (short_act_by word.now rest.old) }
+    ensures { GivesValue result (Spec.short_act_by word.now rest.old) }
 {
     Ok(match word {
         "DEL_HOST_COMMENT" => Act::DelHostComment { id: rest.number()? },
@@ -82,7 +80,7 @@ fn short_act_by(word: &str, rest: &mut Fields) -> Result<Act, FieldErr>
 
 #[tactic(auto, unfolding(crate::specs::Commands::check_result))]
 fn check_result(kind: ObjectKind, fields: &mut Fields) -> Result<Act, FieldErr>
-    ensures { GivesValue result (check_result kind fields.old) }
+    ensures { GivesValue result (Spec.check_result kind fields.old) }
 {
     let object = fields.object(kind)?;
     let found = fields.check_result(kind)?;
@@ -91,7 +89,7 @@ fn check_result(kind: ObjectKind, fields: &mut Fields) -> Result<Act, FieldErr>
 
 #[tactic(auto, unfolding(crate::specs::Commands::comment))]
 fn comment(kind: ObjectKind, fields: &mut Fields) -> Result<Act, FieldErr>
-    ensures { GivesValue result (comment kind fields.old) }
+    ensures { GivesValue result (Spec.comment kind fields.old) }
 {
     let object = fields.object(kind)?;
     let comment = fields.comment()?;
@@ -100,7 +98,7 @@ fn comment(kind: ObjectKind, fields: &mut Fields) -> Result<Act, FieldErr>
 
 #[tactic(auto, unfolding(crate::specs::Commands::acknowledgement))]
 fn acknowledgement(kind: ObjectKind, fields: &mut Fields) -> Result<Act, FieldErr>
-    ensures { GivesValue result (acknowledgement kind fields.old) }
+    ensures { GivesValue result (Spec.acknowledgement kind fields.old) }
 {
     let object = fields.object(kind)?;
     let given = fields.acknowledgement()?;
@@ -109,7 +107,7 @@ fn acknowledgement(kind: ObjectKind, fields: &mut Fields) -> Result<Act, FieldEr
 
 #[tactic(auto, unfolding(crate::specs::Commands::downtime))]
 fn downtime(kind: ObjectKind, fields: &mut Fields) -> Result<Act, FieldErr>
-    ensures { GivesValue result (downtime kind fields.old) }
+    ensures { GivesValue result (Spec.downtime kind fields.old) }
 {
     let object = fields.object(kind)?;
     let downtime = fields.downtime()?;
@@ -117,7 +115,7 @@ fn downtime(kind: ObjectKind, fields: &mut Fields) -> Result<Act, FieldErr>
 }
 
 fn check_result_act(object: Object, found: CheckResultFields) -> Act
-    ensures { result ≡ check_result_act object found }
+    ensures { result ≡ Spec.check_result_act object found }
 {
     let CheckResultFields { code, output } = found;
     match object {
@@ -131,7 +129,7 @@ fn check_result_act(object: Object, found: CheckResultFields) -> Act
 }
 
 fn comment_act(object: Object, comment: CommentFields) -> Act
-    ensures { result ≡ comment_act object comment }
+    ensures { result ≡ Spec.comment_act object comment }
 {
     let CommentFields {
         persistent,
@@ -155,7 +153,7 @@ fn comment_act(object: Object, comment: CommentFields) -> Act
 }
 
 fn acknowledgement_act(object: Object, given: AcknowledgementFields) -> Act
-    ensures { result ≡ acknowledgement_act object given }
+    ensures { result ≡ Spec.acknowledgement_act object given }
 {
     let AcknowledgementFields {
         sticky,
@@ -188,7 +186,7 @@ fn acknowledgement_act(object: Object, given: AcknowledgementFields) -> Act
 }
 
 fn downtime_act(object: Object, downtime: DowntimeFields) -> Act
-    ensures { result ≡ downtime_act object downtime }
+    ensures { result ≡ Spec.downtime_act object downtime }
 {
     let DowntimeFields {
         start,

@@ -1,9 +1,7 @@
 ghost use Rattle.std.specs.Prelude.{◌≡◌, [], IfOk, OnOk};
 ghost use Rattle.std.specs.List.{before_first};
 ghost use Rattle.std.specs.Option.{option_copied, unwrap_or};
-ghost use Rattle.lq_commands.specs.Fields.{fields_after, after_semicolon, all_fields, field};
-ghost use Rattle.lq_commands.specs.Fields.{host_in, is_semicolon, later, number, number_in, second};
-ghost use Rattle.lq_commands.specs.Fields.{second_in, service_in};
+ghost use Rattle.lq_commands.specs.Fields as Spec;
 ghost use Rattle.lq_commands.specs.Reading.{GivesValue};
 
 use lq_records::{Base, HostId, Memory, ServiceId, Text};
@@ -59,7 +57,7 @@ impl<'a> Model for Fields<'a> {
 impl<'a> Fields<'a> {
     /// All fields of a command's text.
     pub(crate) fn of(alloc: Global, base: &'a Base, text: &'a str) -> Self
-        ensures { result ≡ all_fields base.now text.now }
+        ensures { result ≡ Spec.all_fields base.now text.now }
     {
         Fields {
             alloc,
@@ -71,8 +69,8 @@ impl<'a> Fields<'a> {
     /// Takes the next field, which ends at its `;`. None where none is left.
     #[tactic(auto, unfolding(crate::specs::Fields::field))]
     pub(crate) fn next(&mut self) -> Option<&'a str>
-        ensures value { option_copied result ≡ field self.old }
-        ensures rest { self.new ≡ later self.old }
+        ensures value { option_copied result ≡ Spec.field self.old }
+        ensures rest { self.new ≡ Spec.later self.old }
     {
         let (field, later) = split_field(self.rest?);
         self.rest = later;
@@ -82,8 +80,8 @@ impl<'a> Fields<'a> {
     /// Takes a field that is a number.
     #[tactic(auto, unfolding(crate::specs::Fields::number_in))]
     pub(crate) fn number(&mut self) -> Result<u64, FieldErr>
-        ensures value { GivesValue result (number_in self.old) }
-        ensures rest { self.new ≡ later self.old }
+        ensures value { GivesValue result (Spec.number_in self.old) }
+        ensures rest { self.new ≡ Spec.later self.old }
     {
         let digits = self.next().ok_or(FieldErr::Faulty)?;
         number(digits).ok_or(FieldErr::Faulty)
@@ -92,8 +90,8 @@ impl<'a> Fields<'a> {
     /// Takes a field that is a second, counted from the beginning of 1970, of at most 12 digits.
     #[tactic(auto, unfolding(crate::specs::Fields::second_in))]
     pub(crate) fn second(&mut self) -> Result<u64, FieldErr>
-        ensures value { GivesValue result (second_in self.old) }
-        ensures rest { self.new ≡ later self.old }
+        ensures value { GivesValue result (Spec.second_in self.old) }
+        ensures rest { self.new ≡ Spec.later self.old }
     {
         let digits = self.next().ok_or(FieldErr::Faulty)?;
         second(digits).ok_or(FieldErr::Faulty)
@@ -101,8 +99,8 @@ impl<'a> Fields<'a> {
 
     /// Takes a field that is a text.
     pub(crate) fn text(&mut self) -> Result<Text, FieldErr>
-        ensures value { GivesValue result (field self.old) }
-        ensures rest { self.new ≡ later self.old }
+        ensures value { GivesValue result (Spec.field self.old) }
+        ensures rest { self.new ≡ Spec.later self.old }
     {
         let field = self.next().ok_or(FieldErr::Faulty)?;
         Ok(Text::new(self.alloc, field)?)
@@ -129,8 +127,8 @@ impl<'a> Fields<'a> {
     /// Takes a field that names a host.
     #[tactic(auto, unfolding(crate::specs::Fields::host_in))]
     pub(crate) fn host(&mut self) -> Result<HostId, FieldErr>
-        ensures value { GivesValue result (host_in self.old) }
-        ensures rest { self.new ≡ later self.old }
+        ensures value { GivesValue result (Spec.host_in self.old) }
+        ensures rest { self.new ≡ Spec.later self.old }
     {
         let name = self.next().ok_or(FieldErr::Faulty)?;
         self.base.hosts.find(name).ok_or(FieldErr::Faulty)
@@ -139,8 +137,8 @@ impl<'a> Fields<'a> {
     /// Takes two fields that name a service: its host's name and its description.
     #[tactic(auto, unfolding(crate::specs::Fields::service_in))]
     pub(crate) fn service(&mut self) -> Result<ServiceId, FieldErr>
-        ensures value { GivesValue result (service_in self.old) }
-        ensures rest { OnOk result (self.new ≡ fields_after 2 self.old) }
+        ensures value { GivesValue result (Spec.service_in self.old) }
+        ensures rest { OnOk result (self.new ≡ Spec.fields_after 2 self.old) }
     {
         let host = self.next().ok_or(FieldErr::Faulty)?;
         let description = self.next().ok_or(FieldErr::Faulty)?;
@@ -154,8 +152,8 @@ impl<'a> Fields<'a> {
 /// A text up to its first `;`, and what follows that `;`, None where there is none.
 #[tactic(auto, unfolding(crate::specs::Fields::after_semicolon))]
 fn split_field(text: &str) -> (&str, Option<&str>)
-    ensures field { result.0.now ≡ before_first is_semicolon text.now }
-    ensures later { option_copied result.1 ≡ after_semicolon text.now }
+    ensures field { result.0.now ≡ before_first Spec.is_semicolon text.now }
+    ensures later { option_copied result.1 ≡ Spec.after_semicolon text.now }
 {
     match text.split_once(';') {
         Some((field, later)) => (field, Some(later)),
@@ -166,7 +164,7 @@ fn split_field(text: &str) -> (&str, Option<&str>)
 /// The number that digits say.
 #[tactic(auto, using(crate::proofs::FieldLemmas::number_read))]
 fn number(digits: &str) -> Option<u64>
-    ensures { result ≡ number digits.now }
+    ensures { result ≡ Spec.number digits.now }
 {
     read_u64(digits.as_bytes())
 }
@@ -174,7 +172,7 @@ fn number(digits: &str) -> Option<u64>
 /// The second that digits say.
 #[tactic(auto, unfolding(crate::specs::Fields::second))]
 fn second(digits: &str) -> Option<u64>
-    ensures { result ≡ second digits.now }
+    ensures { result ≡ Spec.second digits.now }
 {
     if digits.len() <= MOST_SECOND_DIGITS {
         number(digits)

@@ -65,8 +65,8 @@ module _ (nodes more : List SizedHeader) (have : HaveTrees (reverse (headers_of_
       ∙ ap (truths truth) (headers_both nodes (take count more))
       ∙ truths-append truth (reverse (headers_of_nodes (take count more))) (reverse (headers_of_nodes nodes)) (have_first more count have)
 
-  tree_behind : (count size : ℕ) → IsTree more count size → IsTree (nodes ++ more) (length nodes + count) size
-  tree_behind count size is = record {
+  tree_after : (count size : ℕ) → IsTree more count size → IsTree (nodes ++ more) (length nodes + count) size
+  tree_after count size is = record {
     some = is.some;
     within = omega (arith, is.within);
     tree = λ truth. omega (arith, is.tree truth, ap length (truths_both truth count), length-append (truths_before truth more count) (truths truth (reverse (headers_of_nodes nodes))));
@@ -83,13 +83,13 @@ module _ (nodes more : List SizedHeader) (have : HaveTrees (reverse (headers_of_
   linked_both : AreLinkedTrees nodes → AreLinkedTrees more → AreLinkedTrees (nodes ++ more)
   linked_both first second = record {
     each = λ place other some within. elim (cases_lt (length nodes) place) [
-      | inl behind ↦
-          let at : length nodes + (place - length nodes) ≡ place = omega (arith, behind) in
+      | inl beyond ↦
+          let at : length nodes + (place - length nodes) ≡ place = omega (arith, beyond) in
           let node : get_or (nodes ++ more) (place - 1) other ≡ get_or more (place - length nodes - 1) other
-          = get_or-append_right nodes more (place - 1) other (omega (arith, behind)) ∙ ap (λ k. get_or more k other) (omega (arith, behind)) in
+          = get_or-append_right nodes more (place - 1) other (omega (arith, beyond)) ∙ ap (λ k. get_or more k other) (omega (arith, beyond)) in
           rw (node) (subst (λ k. IsTree (nodes ++ more) k (get_or more (place - length nodes - 1) other).size) at
-          (tree_behind (place - length nodes) (get_or more (place - length nodes - 1) other).size
-          (second.each (place - length nodes) other (omega (arith, behind)) (omega (arith, within, length-append nodes more)))))
+          (tree_after (place - length nodes) (get_or more (place - length nodes - 1) other).size
+          (second.each (place - length nodes) other (omega (arith, beyond)) (omega (arith, within, length-append nodes more)))))
       | inr before ↦ rw (get_or_append_left nodes more other (place - 1) (omega (arith, some, before))) (same_tree nodes more place (get_or nodes (place - 1) other).size before (first.each place other some before))
     ];
   }

@@ -27,14 +27,14 @@ module _ {R : Type 0} (chosen : R → Bool) (rows : List R) where
   }
 
   kept_and : (later : R → Bool) (old first new : List Bool) → AreKept chosen rows old first → AreKept later rows first new → AreKept (λ row. chosen row && later row) rows old new
-  kept_and later old first new before behind = record {
-    each = λ place row below. rw (behind.each place row below, before.each place row below) (both (get_or old place false) (chosen (get_or rows place row)) (later (get_or rows place row)));
+  kept_and later old first new before beyond = record {
+    each = λ place row below. rw (beyond.each place row below, before.each place row below) (both (get_or old place false) (chosen (get_or rows place row)) (later (get_or rows place row)));
   }
 
   kept_or : (later : R → Bool) (old first left met new : List Bool) → length first ≡ length rows → AreKept chosen rows old first → AreKept not first old left → AreKept later rows left met
       → ((place : ℕ) → get_or new place false ≡ (get_or first place false || get_or met place false)) → AreKept (λ row. chosen row || later row) rows old new
-  kept_or later old first left met new long before rest behind is = record {
-    each = λ place row below. rw (is place, behind.each place row below, rest.each place false (omega arith), before.each place row below) (either (get_or old place false) (chosen (get_or rows place row)) (later (get_or rows place row)));
+  kept_or later old first left met new long before rest beyond is = record {
+    each = λ place row below. rw (is place, beyond.each place row below, rest.each place false (omega arith), before.each place row below) (either (get_or old place false) (chosen (get_or rows place row)) (later (get_or rows place row)));
   }
 
   mark_at : (old new : List Bool) → length new ≡ length rows → ((place : ℕ) → place < length rows → get_or old place false ≡ true) → AreKept chosen rows old new
@@ -49,7 +49,7 @@ module _ {R : Type 0} (chosen : R → Bool) (rows : List R) where
 pub kept_next : {R : Type 0} (chosen : R → Bool) (rows : List R) (old mid : List Bool) (start place : ℕ) (met : Bool) → AreKeptBetween chosen rows old mid start place
     → start ≤ place → place < length mid → get_or mid place false ≡ true → ((row : R) → met ≡ chosen (get_or rows place row))
     → AreKeptBetween chosen rows old (set mid place met) start (place + 1)
-kept_next chosen rows old mid start place met kept behind within marked is = record {
+kept_next chosen rows old mid start place met kept beyond within marked is = record {
   before = λ k below. get_or-set_other mid place k met false (λ same. omega arith) ∙ kept.before k below;
   done = λ k row least below. ⊎_elim
       (λ (earlier : k < place). get_or-set_other mid place k met false (λ same. omega arith) ∙ kept.done k row least earlier)
@@ -66,7 +66,7 @@ pub kept_both : {R : Type 0} (chosen : R → Bool) (rows : List R) (old first ne
 kept_both chosen rows old first new end front back = record {
   each = λ place row below. ⊎_elim
       (λ (before : place < end). back.before place before ∙ front.done place row before)
-      (λ (behind : end ≤ place). back.done place row behind below ∙ ap (λ mark. mark && chosen (get_or rows place row)) (front.left place behind))
+      (λ (beyond : end ≤ place). back.done place row beyond below ∙ ap (λ mark. mark && chosen (get_or rows place row)) (front.left place beyond))
       (cases_lt place end);
 }
 
@@ -112,19 +112,19 @@ module _ (trees rest : List Bool) (count : ℕ) (some : 0 < count) (long : 0 < l
 module _ {R : Type 0} (truth_of : R → Test → Bool) (rows : List R) (nodes : List SizedHeader) (end size count : ℕ) (some : 0 < count) (tree : IsTree nodes end size) where
   pub all_kept : (old first new : List Bool) → AreKept (λ row. some_or_all false (take (count - 1) (truths_before (truth_of row) nodes (end - size)))) rows old first
       → AreKept (λ row. get_or (truths_before (truth_of row) nodes end) 0 false) rows first new → AreKept (λ row. some_or_all false (take count (truths_before (truth_of row) nodes end))) rows old new
-  all_kept old first new before behind =
+  all_kept old first new before beyond =
       let earlier : R → Bool = λ row. some_or_all false (take (count - 1) (truths_before (truth_of row) nodes (end - size))) in
       let last : R → Bool = λ row. get_or (truths_before (truth_of row) nodes end) 0 false in
       kept_same (λ row. earlier row && last row) rows _ old new
       (λ row. all_more (truths_before (truth_of row) nodes end) (truths_before (truth_of row) nodes (end - size)) count some (tree.tree (truth_of row)) (tree.earlier (truth_of row)))
-      (kept_and earlier rows last old first new before behind)
+      (kept_and earlier rows last old first new before beyond)
 
   pub any_kept : (old first left met new : List Bool) → length first ≡ length rows → AreKept (λ row. some_or_all true (take (count - 1) (truths_before (truth_of row) nodes (end - size)))) rows old first
       → AreKept not first old left → AreKept (λ row. get_or (truths_before (truth_of row) nodes end) 0 false) rows left met
       → ((place : ℕ) → get_or new place false ≡ (get_or first place false || get_or met place false)) → AreKept (λ row. some_or_all true (take count (truths_before (truth_of row) nodes end))) rows old new
-  any_kept old first left met new long before rest behind is =
+  any_kept old first left met new long before rest beyond is =
       let earlier : R → Bool = λ row. some_or_all true (take (count - 1) (truths_before (truth_of row) nodes (end - size))) in
       let last : R → Bool = λ row. get_or (truths_before (truth_of row) nodes end) 0 false in
       kept_same (λ row. earlier row || last row) rows _ old new
       (λ row. any_more (truths_before (truth_of row) nodes end) (truths_before (truth_of row) nodes (end - size)) count some (tree.tree (truth_of row)) (tree.earlier (truth_of row)))
-      (kept_or earlier rows last old first left met new long before rest behind is)
+      (kept_or earlier rows last old first left met new long before rest beyond is)

@@ -79,7 +79,7 @@ next_tree nodes node next =
 pub AreLinked-more : (nodes : List SizedHeader) (node : SizedHeader) → AreLinkedTrees nodes → IsNext nodes node → AreLinkedTrees (nodes ++ node ∷ [])
 AreLinked-more nodes node linked next = record {
   each = λ place other some within. elim (cases_lt (length nodes) place) [
-    | inl behind ↦
+    | inl beyond ↦
         let last : place ≡ length nodes + 1 = omega (arith, length-append nodes (node ∷ [])) in
         rw (last, get_or_at nodes node [] other (length nodes + 1 - 1) (omega arith)) (next_tree nodes node next)
     | inr before ↦ rw (get_or_append_left nodes (node ∷ []) other (place - 1) (omega arith)) (same_tree nodes (node ∷ []) place (get_or nodes (place - 1) other).size before (linked.each place other some before))
@@ -104,8 +104,8 @@ next_test nodes test = record {
   earlier = λ truth. sym (ap (truths_before truth nodes) (omega arith) ∙ whole_truths truth nodes);
 }
 
-place_behind : (nodes : List SizedHeader) (start : ℕ) → start ≤ length nodes → start ≡ length nodes + 1 - (length nodes - start + 1)
-place_behind nodes start within = omega arith
+place_after : (nodes : List SizedHeader) (start : ℕ) → start ≤ length nodes → start ≡ length nodes + 1 - (length nodes - start + 1)
+place_after nodes start within = omega arith
 
 next_join : (nodes : List SizedHeader) (join : Join) (start : ℕ) → start ≤ length nodes → BeginAt nodes join.count start
     → IsNext nodes (record { header = header.Join join; size = length nodes - start + 1 })
@@ -113,7 +113,7 @@ next_join nodes join start within begin = record {
   some = omega arith;
   within = omega arith;
   tree = λ truth. omega arith;
-  earlier = λ truth. ap (drop join.count) (sym (whole_truths truth nodes)) ∙ begin truth ∙ ap (truths_before truth nodes) (place_behind nodes start within);
+  earlier = λ truth. ap (drop join.count) (sym (whole_truths truth nodes)) ∙ begin truth ∙ ap (truths_before truth nodes) (place_after nodes start within);
 }
 
 next_negate : (nodes : List SizedHeader) (start : ℕ) → start ≤ length nodes → 0 < height (headers_of_nodes nodes) → BeginAt nodes 1 start
@@ -122,7 +122,7 @@ next_negate nodes start within enough begin = record {
   some = omega arith;
   within = omega arith;
   tree = λ truth. omega (arith, enough, length-first_negated (truths truth (reverse (headers_of_nodes nodes))), length-truths truth (reverse (headers_of_nodes nodes)));
-  earlier = λ truth. drop-first_negated (truths truth (reverse (headers_of_nodes nodes))) ∙ ap (drop 1) (sym (whole_truths truth nodes)) ∙ begin truth ∙ ap (truths_before truth nodes) (place_behind nodes start within);
+  earlier = λ truth. drop-first_negated (truths truth (reverse (headers_of_nodes nodes))) ∙ ap (drop 1) (sym (whole_truths truth nodes)) ∙ begin truth ∙ ap (truths_before truth nodes) (place_after nodes start within);
 }
 
 pub stacked_test : (nodes : List SizedHeader) (trees : ℕ) (test : Test) → AreStacked nodes trees

@@ -1,7 +1,5 @@
 ghost use Rattle.std.specs.Prelude.{◌≡◌};
-ghost use Rattle.lq_filter.specs.Reading.{Gives, containment, emptiness, kind_check, list_check};
-ghost use Rattle.lq_filter.specs.Reading.{nocase_comparison, number_check, number_comparison};
-ghost use Rattle.lq_filter.specs.Reading.{pattern_match, test_read, text_check, text_comparison};
+ghost use Rattle.lq_filter.specs.Reading as Spec;
 ghost use Rattle.lq_filter.specs.Tests.{asks_for_pattern};
 
 use crate::check::{Check, Comparison, Property};
@@ -56,7 +54,7 @@ impl Test {
     /// the column has numbers and the value is no signed number of 64 bits; `BadPattern` where the
     /// operator takes a pattern and the value is none. Besides, memory may run out.
     pub fn read(alloc: Global, c: Col, op: &str, value: &str) -> Result<Test, TestErr>
-        ensures { Gives result (test_read c op.now value.now) }
+        ensures { Spec.Gives result (Spec.test_read c op.now value.now) }
     {
         let Some(operator) = Operator::of(op) else {
             return Err(TestErr::Operator);
@@ -82,7 +80,7 @@ fn kind_check(
     operator: Operator,
     value: &str,
 ) -> Result<Check, TestErr>
-    ensures { Gives result (kind_check kind operator value.now) }
+    ensures { Spec.Gives result (Spec.kind_check kind operator value.now) }
 {
     match kind {
         ColKind::Int => number_check(operator, value),
@@ -92,7 +90,7 @@ fn kind_check(
 }
 
 fn number_check(operator: Operator, value: &str) -> Result<Check, TestErr>
-    ensures { Gives result (number_check operator value.now) }
+    ensures { Spec.Gives result (Spec.number_check operator value.now) }
 {
     match operator {
         Operator::Equal => number_comparison(false, Ordering::Equal, value),
@@ -106,7 +104,7 @@ fn number_check(operator: Operator, value: &str) -> Result<Check, TestErr>
 }
 
 fn text_check(alloc: Global, operator: Operator, value: &str) -> Result<Check, TestErr>
-    ensures { Gives result (text_check operator value.now) }
+    ensures { Spec.Gives result (Spec.text_check operator value.now) }
 {
     match operator {
         Operator::Equal => text_comparison(alloc, false, Ordering::Equal, value),
@@ -125,7 +123,7 @@ fn text_check(alloc: Global, operator: Operator, value: &str) -> Result<Check, T
 }
 
 fn list_check(alloc: Global, operator: Operator, value: &str) -> Result<Check, TestErr>
-    ensures { Gives result (list_check operator value.now) }
+    ensures { Spec.Gives result (Spec.list_check operator value.now) }
 {
     match operator {
         Operator::Equal => emptiness(false, value),
@@ -143,7 +141,7 @@ fn list_check(alloc: Global, operator: Operator, value: &str) -> Result<Check, T
 }
 
 fn number_comparison(negated: bool, ordering: Ordering, value: &str) -> Result<Check, TestErr>
-    ensures { Gives result (number_comparison negated ordering value.now) }
+    ensures { Spec.Gives result (Spec.number_comparison negated ordering value.now) }
 {
     match read_i64(trim_end(value.as_bytes())) {
         Some(number) => Ok(compares(negated, Comparison::Number(ordering, number))),
@@ -157,28 +155,28 @@ fn text_comparison(
     ordering: Ordering,
     value: &str,
 ) -> Result<Check, TestErr>
-    ensures { Gives result (text_comparison negated ordering value.now) }
+    ensures { Spec.Gives result (Spec.text_comparison negated ordering value.now) }
 {
     let operand = Text::new(alloc, value)?;
     Ok(compares(negated, Comparison::Text(ordering, operand)))
 }
 
 fn nocase_comparison(alloc: Global, negated: bool, value: &str) -> Result<Check, TestErr>
-    ensures { Gives result (nocase_comparison negated value.now) }
+    ensures { Spec.Gives result (Spec.nocase_comparison negated value.now) }
 {
     let operand = Text::new(alloc, value)?;
     Ok(compares(negated, Comparison::EqualNoCase(operand)))
 }
 
 fn containment(alloc: Global, negated: bool, value: &str) -> Result<Check, TestErr>
-    ensures { Gives result (containment negated value.now) }
+    ensures { Spec.Gives result (Spec.containment negated value.now) }
 {
     let operand = Text::new(alloc, value)?;
     Ok(compares(negated, Comparison::Contains(operand)))
 }
 
 fn emptiness(negated: bool, value: &str) -> Result<Check, TestErr>
-    ensures { Gives result (emptiness negated value.now) }
+    ensures { Spec.Gives result (Spec.emptiness negated value.now) }
 {
     if value.is_empty() {
         Ok(compares(negated, Comparison::IsEmpty))
@@ -197,7 +195,7 @@ fn compares(negated: bool, comparison: Comparison) -> Check
 }
 
 fn pattern_match(alloc: Global, negated: bool, folded: bool, value: &str) -> Result<Check, TestErr>
-    ensures { Gives result (pattern_match negated folded value.now) }
+    ensures { Spec.Gives result (Spec.pattern_match negated folded value.now) }
 {
     match Pattern::new(alloc, value, folded)? {
         Some(pattern) => Ok(Check {

@@ -43,17 +43,17 @@ with_id id ds = find (λ d. d.id == id) ds
 abbrev pub AreKnown : List Downtime → List Downtime → Type 0
 AreKnown ds = AllByRecursion (λ d. with_id d.id ds ≡ Some d)
 
-known_behind : (d : Downtime) (least next : ℕ) (ds more : List Downtime) → d.id < least → IdsRise downtime_id least next more → AreKnown ds more → AreKnown (d ∷ ds) more
-known_behind d least next ds [] below rise known = tt
-known_behind d least next ds (e ∷ more) below rise known =
+known_later : (d : Downtime) (least next : ℕ) (ds more : List Downtime) → d.id < least → IdsRise downtime_id least next more → AreKnown ds more → AreKnown (d ∷ ds) more
+known_later d least next ds [] below rise known = tt
+known_later d least next ds (e ∷ more) below rise known =
     let other : (d.id == e.id) ≡ false = grind (arith, nat_tests, below, rise.0) in
-    (rw other known.0, known_behind d (e.id + 1) next ds more (omega (arith, below, rise.0)) rise.2 known.1)
+    (rw other known.0, known_later d (e.id + 1) next ds more (omega (arith, below, rise.0)) rise.2 known.1)
 
 pub all_known : (least next : ℕ) (ds : List Downtime) → IdsRise downtime_id least next ds → AreKnown ds ds
 all_known least next [] rise = tt
 all_known least next (d ∷ ds) rise =
     let own : (d.id == d.id) ≡ true = grind (arith, nat_tests) in
-    (rw own refl, known_behind d (d.id + 1) next ds ds (omega arith) rise.2 (all_known (d.id + 1) next ds rise.2))
+    (rw own refl, known_later d (d.id + 1) next ds ds (omega arith) rise.2 (all_known (d.id + 1) next ds rise.2))
 
 abbrev IsKnown : List Downtime → Event → Type 0
 IsKnown ds event = option_map (λ d. d.object) (with_id event.id ds) ≡ Some event.object

@@ -21,7 +21,7 @@ use Rattle.lq_live.specs.Effects.{AcknowledgeProblem, AddComment, CheckResult, C
 use Rattle.lq_live.specs.Edits.{line_edits, line_of_edit}
 use Rattle.lq_live.specs.StepEdits.{acknowledge_edits_in, change_edits, check_edits, comment_edits, effect_edits, known_edits, notify_edits, remove_acknowledgement_edits, remove_found_edits, result_edits, schedule_edits}
 use Rattle.lq_live.specs.Order.{EditAt, EditsAt, IsNew, LineAt, additions, all_additions}
-use Rattle.lq_live.specs.Kept.{MayFollow, Timely, time_behind}
+use Rattle.lq_live.specs.Kept.{MayFollow, Timely, last_time_after}
 use Rattle.lq_live.specs.declared.edit.Edit.{Edit}
 use Rattle.lq_live.specs.declared.edit.Edit.TheVariants as edit
 
@@ -181,7 +181,7 @@ effect_is Unknown s = nothing s.now
 
 -- lines of one second are in order
 at_by : (second : ℕ) (line : Option LogEntry) (edits : List Edit) → second < time_limit → LineAt second line → Timely second edits
-    → MayFollow second line × Timely (time_behind second line) edits
+    → MayFollow second line × Timely (last_time_after second line) edits
 at_by second None edits below at timely = (tt, timely)
 at_by second (Some entry) edits below at timely =
     let can : entry.time < time_limit = rw at.0 below in

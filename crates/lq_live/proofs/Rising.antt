@@ -13,7 +13,7 @@ use Rattle.lq_live.specs.State.{LineNames, names_of}
 use Rattle.lq_live.specs.Downtimes.{Event, downtimes_after, change_of, crosses, depth, downtime_line, due, end_of, event_order, line_if, moments, only_if, put_in, sort_by, start_of}
 use Rattle.lq_live.specs.Edits.{line_edits, line_of_edit}
 use Rattle.lq_live.specs.Order.{LinesUpTo, Rising, Within, due_lines, event_lines}
-use Rattle.lq_live.specs.Kept.{AllFrom, IsFrom, MayFollow, Timely, time_behind}
+use Rattle.lq_live.specs.Kept.{AllFrom, IsFrom, MayFollow, Timely, last_time_after}
 use Rattle.lq_live.specs.declared.edit.Edit.{Edit}
 use Rattle.lq_live.specs.declared.edit.Edit.TheVariants as edit
 use Rattle.lq_live.proofs.DueEvents.{event_total, precedes}
@@ -77,8 +77,8 @@ due_rising low high ds all = sorted_rising low high (flat_map (moments high) ds)
 
 -- ---- their lines
 
-later_by : (low high : ℕ) (line : Option LogEntry) (edits : List Edit) → low ≤ high → MayFollow high line → Timely (time_behind high line) edits
-    → (Timely high edits → Timely low edits) → MayFollow low line × Timely (time_behind low line) edits
+later_by : (low high : ℕ) (line : Option LogEntry) (edits : List Edit) → low ≤ high → MayFollow high line → Timely (last_time_after high line) edits
+    → (Timely high edits → Timely low edits) → MayFollow low line × Timely (last_time_after low line) edits
 later_by low high None edits above may timely rest = (tt, rest timely)
 later_by low high (Some entry) edits above may timely rest = ((omega (arith, above, may.0), may.1, may.2), timely)
 

@@ -103,15 +103,15 @@ abbrev pub MayFollow : ℕ → Option LogEntry → Type 0
 MayFollow last None = Unit {0}
 MayFollow last (Some entry) = (last ≤ entry.time) × (entry.time < time_limit) × IsOfLine entry
 
-abbrev pub time_behind : ℕ → Option LogEntry → ℕ
-time_behind last None = last
-time_behind last (Some entry) = entry.time
+abbrev pub last_time_after : ℕ → Option LogEntry → ℕ
+last_time_after last None = last
+last_time_after last (Some entry) = entry.time
 
 -- the lines that edits write are in order of time after a last one
 abbrev pub Timely : ℕ → List Edit → Type 0
 Timely last [] = Unit {0}
 Timely last (edit ∷ edits) =
-    MayFollow last (line_of_edit edit) × Timely (time_behind last (line_of_edit edit)) edits
+    MayFollow last (line_of_edit edit) × Timely (last_time_after last (line_of_edit edit)) edits
 
 -- so many edits find their room
 pub record HasRoom (live : LiveState) (n : ℕ) : Type 0 where

@@ -67,11 +67,11 @@ parts_further text at within other so =
     let rest : List ℕ = drop (at + 2) text in
     let two : suc (at + 1) ≡ at + 2 = omega arith in
     let longer : take (at + 1) text ≡ take at text ++ byte ∷ [] = take_more text at 0 (omega (arith, within)) in
-    let behind : drop (at + 1) text ≡ next ∷ rest = drop-cons text (at + 1) 0 within ∙ ap (λ place. next ∷ drop place text) two in
+    let beyond : drop (at + 1) text ≡ next ∷ rest = drop-cons text (at + 1) 0 within ∙ ap (λ place. next ∷ drop place text) two in
     let here : parts_at_colon (drop at text) ≡ option_map (λ pair. (byte ∷ pair.0, pair.1)) (parts_at_colon (next ∷ rest))
     = ap parts_at_colon (two_bytes text at within) ∙ past_byte byte next rest other in
     ap (λ front. grown front (parts_at_colon (drop (at + 1) text))) longer
-    ∙ ap (λ back. grown (take at text ++ byte ∷ []) (parts_at_colon back)) behind
+    ∙ ap (λ back. grown (take at text ++ byte ∷ []) (parts_at_colon back)) beyond
     ∙ sym (grown_by_one (take at text) byte (parts_at_colon (next ∷ rest)))
     ∙ ap (grown (take at text)) (sym here)
     ∙ so

@@ -84,10 +84,10 @@ line_second digits text all some short =
 line_text : (digits text : List ℕ) → list_all is_ascii_digit digits ≡ true → text_after_second (line digits text) ≡ without_front text
 unfolding line
 line_text digits text all =
-    let behind : length digits + 2 ≡ length (91 ∷ digits) + 1 = omega arith in
+    let after : length digits + 2 ≡ length (91 ∷ digits) + 1 = omega arith in
     let blank : 1 + prefix_len is_blank text ≡ suc (prefix_len is_blank text) = omega arith in
     ap (λ found. without_front (drop (length found + 2) (line digits text))) (line_digits digits text all)
-    ∙ ap without_front (ap (λ count. drop count (line digits text)) behind ∙ drop-append-add (91 ∷ digits) (93 ∷ 32 ∷ text) 1)
+    ∙ ap without_front (ap (λ count. drop count (line digits text)) after ∙ drop-append-add (91 ∷ digits) (93 ∷ 32 ∷ text) 1)
     ∙ ap (λ count. drop count (32 ∷ text)) blank
 
 -- ---- a form's line

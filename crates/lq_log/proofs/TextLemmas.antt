@@ -34,10 +34,10 @@ text_utf8 line utf8 is =
     let bracket : (get_or line (length (digits_of line) + 1) 0 == 93) ≡ true
     = last_holds (get_or line 0 0 == 91) (nat_lt 0 (length (digits_of line))) (nat_le (length (digits_of line)) 12) (get_or line (length (digits_of line) + 1) 0 == 93) is in
     let byte : get_or line (length (digits_of line) + 1) 0 ≡ 93 = grind (arith, nat_tests, bracket) in
-    let behind : IsUtf8 (drop (length (digits_of line) + 2) line)
+    let beyond : IsUtf8 (drop (length (digits_of line) + 2) line)
     = after_ascii line (length (digits_of line) + 1) (length (digits_of line) + 2) (omega arith) utf8 (within line _ 93 (omega arith) byte) (omega (arith, byte)) in
-    after_blanks (drop (length (digits_of line) + 2) line) _ refl behind
+    after_blanks (drop (length (digits_of line) + 2) line) _ refl beyond
 
 pub text_boundary : (line : List ℕ) (place second : ℕ) → IsUtf8 line → place ≤ length line → Some second ≡ second_of line → drop place line ≡ text_after_second line → IsCharBoundary line place
-text_boundary line place second utf8 fits is behind =
-    IsCharBoundary-from_drop line place fits (subst IsUtf8 (sym behind) (text_utf8 line utf8 (cond_some (has_second line) _ second (sym is)).0))
+text_boundary line place second utf8 fits is beyond =
+    IsCharBoundary-from_drop line place fits (subst IsUtf8 (sym beyond) (text_utf8 line utf8 (cond_some (has_second line) _ second (sym is)).0))

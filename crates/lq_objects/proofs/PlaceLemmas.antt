@@ -144,8 +144,8 @@ deciding : (known : BlockKind → List ObjectName) (line : Line) (later : List L
     → (found ≡ None → list_any names_host later ≡ false) → names_unknown known line later ServiceHost ≡ false
     → (option_map said_host found ≡ Some value → is_unknown known ServiceHost value ≡ false)
     → option_map said_host (option_or found (find names_host (line ∷ []))) ≡ Some value → is_unknown known ServiceHost value ≡ false
-deciding known line later value (Some other) last here behind says = behind says
-deciding known line later value None last here behind says =
+deciding known line later value (Some other) last here after says = after says
+deciding known line later value None last here after says =
     cond_both (names_host line) (Some line) None (λ found. option_map said_host found ≡ Some value → is_unknown known ServiceHost value ≡ false)
     (λ named same.
     let decided : decides (codes "host_name") line later ≡ true = and_from (names_host line) _ named (not_from_false _ (last refl)) in

@@ -8,10 +8,7 @@ ghost use Rattle.lq_objects.specs.Faults.{first_of, lacks_any_named, lacks_named
 ghost use Rattle.lq_objects.specs.Kinds.{fields_references, references};
 ghost use Rattle.lq_objects.specs.Names.{text_or};
 ghost use Rattle.lq_objects.specs.Needed.{directive_word};
-ghost use Rattle.lq_objects.specs.Objects.{command_of, contact_group_of, contact_of, fields_of};
-ghost use Rattle.lq_objects.specs.Objects.{host_group_of, host_of, number_or, objects_of};
-ghost use Rattle.lq_objects.specs.Objects.{period_of};
-ghost use Rattle.lq_objects.specs.Objects.{places, service_group_of, service_of, with_object};
+ghost use Rattle.lq_objects.specs.Objects as Spec;
 
 use crate::block::Block;
 use crate::directive::{MOST_ATTEMPTS, directive, number_between};
@@ -42,7 +39,8 @@ pub(crate) fn objects_of(
 ) -> Result<Base, ObjectsErr>
     requires { directory ≡ directory_of blocks.now }
     ensures fault { Checks result (first_of (unknown_in_block (names_in directory)) blocks.now) }
-    ensures base { IfOk result (λ base. base ≡ objects_of (names_in directory) rules blocks.now) }
+    ensures base { IfOk result
+        (λ base. base ≡ Spec.objects_of (names_in directory) rules blocks.now) }
 {
     let draft = draft_of(texts, &directory, rules, blocks)?;
     match draft.finish(texts.alloc(), directory) {
@@ -62,7 +60,7 @@ fn draft_of(
     ensures fault { Checks result
         (first_of (unknown_in_block (names_in directory.now)) blocks.now) }
     ensures draft { IfOk result
-        (λ draft. base_of_draft draft ≡ objects_of (names_in directory.now) rules blocks.now) }
+        (λ draft. base_of_draft draft ≡ Spec.objects_of (names_in directory.now) rules blocks.now) }
 {
     let mut draft = Draft::new(rules);
     for block in blocks {
@@ -113,7 +111,7 @@ impl<'r, 'a> Reader<'r, 'a> {
     /// Adds the block's own object at the end of its kind.
     fn add_to(&self, draft: &mut Draft, kind: BlockKind) -> Result<(), ObjectErr>
         requires { self.now.own_name.now ≡ own_name_of kind self.now.lines.now }
-        ensures object { OnOk result (base_of_draft draft.new ≡ with_object
+        ensures object { OnOk result (base_of_draft draft.new ≡ Spec.with_object
             (names_in self.now.directory.now) (base_of_draft draft.old) kind self.now.lines.now) }
         ensures unknown { MakesUnless result (lacks_any_named
             (names_in self.now.directory.now) self.now.lines.now (references kind)) }
@@ -135,7 +133,7 @@ impl<'r, 'a> Reader<'r, 'a> {
     fn host(&self) -> Result<Host, ObjectErr>
         requires { self.now.own_name.now ≡ own_name_of BlockKind.Host self.now.lines.now }
         ensures host { IfOk result
-            (λ host. host ≡ host_of (names_in self.now.directory.now) self.now.lines.now) }
+            (λ host. host ≡ Spec.host_of (names_in self.now.directory.now) self.now.lines.now) }
         ensures unknown { MakesUnless result (lacks_any_named
             (names_in self.now.directory.now) self.now.lines.now (references BlockKind.Host)) }
     {
@@ -152,7 +150,7 @@ impl<'r, 'a> Reader<'r, 'a> {
     fn service(&self) -> Result<Service, ObjectErr>
         requires { self.now.own_name.now ≡ own_name_of BlockKind.Service self.now.lines.now }
         ensures service { IfOk result (λ service. service
-            ≡ service_of (names_in self.now.directory.now) self.now.lines.now) }
+            ≡ Spec.service_of (names_in self.now.directory.now) self.now.lines.now) }
         ensures unknown { MakesUnless result (lacks_any_named
             (names_in self.now.directory.now) self.now.lines.now (references BlockKind.Service)) }
     {
@@ -168,7 +166,7 @@ impl<'r, 'a> Reader<'r, 'a> {
     /// What a host or a service has beside its name.
     fn fields(&self, own_name: &Text) -> Result<ObjectFields, ObjectErr>
         ensures fields { IfOk result (λ fields. fields
-            ≡ fields_of (names_in self.now.directory.now) own_name.now self.now.lines.now) }
+            ≡ Spec.fields_of (names_in self.now.directory.now) own_name.now self.now.lines.now) }
         ensures unknown { MakesUnless result (lacks_any_named
             (names_in self.now.directory.now) self.now.lines.now fields_references) }
     {
@@ -240,7 +238,7 @@ impl<'r, 'a> Reader<'r, 'a> {
     fn host_group(&self) -> Result<HostGroup, ObjectErr>
         requires { self.now.own_name.now ≡ own_name_of BlockKind.HostGroup self.now.lines.now }
         ensures group { IfOk result (λ group. group
-            ≡ host_group_of (names_in self.now.directory.now) self.now.lines.now) }
+            ≡ Spec.host_group_of (names_in self.now.directory.now) self.now.lines.now) }
         ensures unknown { MakesUnless result (lacks_any_named
             (names_in self.now.directory.now) self.now.lines.now (references BlockKind.HostGroup)) }
     {
@@ -258,7 +256,7 @@ impl<'r, 'a> Reader<'r, 'a> {
     fn service_group(&self) -> Result<ServiceGroup, ObjectErr>
         requires { self.now.own_name.now ≡ own_name_of BlockKind.ServiceGroup self.now.lines.now }
         ensures group { IfOk result (λ group. group
-            ≡ service_group_of (names_in self.now.directory.now) self.now.lines.now) }
+            ≡ Spec.service_group_of (names_in self.now.directory.now) self.now.lines.now) }
         ensures unknown { MakesUnless result (lacks_any_named
             (names_in self.now.directory.now) self.now.lines.now
             (references BlockKind.ServiceGroup)) }
@@ -276,7 +274,7 @@ impl<'r, 'a> Reader<'r, 'a> {
 
     fn contact(&self) -> Result<Contact, AllocError>
         requires { self.now.own_name.now ≡ own_name_of BlockKind.Contact self.now.lines.now }
-        ensures { IfOk result (λ contact. contact ≡ contact_of self.now.lines.now) }
+        ensures { IfOk result (λ contact. contact ≡ Spec.contact_of self.now.lines.now) }
     {
         let contact_name = self.own_name.0.clone()?;
         Ok(Contact {
@@ -292,7 +290,7 @@ impl<'r, 'a> Reader<'r, 'a> {
     fn contact_group(&self) -> Result<ContactGroup, ObjectErr>
         requires { self.now.own_name.now ≡ own_name_of BlockKind.ContactGroup self.now.lines.now }
         ensures group { IfOk result (λ group. group
-            ≡ contact_group_of (names_in self.now.directory.now) self.now.lines.now) }
+            ≡ Spec.contact_group_of (names_in self.now.directory.now) self.now.lines.now) }
         ensures unknown { MakesUnless result (lacks_any_named
             (names_in self.now.directory.now) self.now.lines.now
             (references BlockKind.ContactGroup)) }
@@ -307,7 +305,7 @@ impl<'r, 'a> Reader<'r, 'a> {
 
     fn period(&self) -> Result<Period, AllocError>
         requires { self.now.own_name.now ≡ own_name_of BlockKind.Period self.now.lines.now }
-        ensures { IfOk result (λ period. period ≡ period_of self.now.lines.now) }
+        ensures { IfOk result (λ period. period ≡ Spec.period_of self.now.lines.now) }
     {
         let timeperiod_name = self.own_name.0.clone()?;
         Ok(Period {
@@ -318,7 +316,7 @@ impl<'r, 'a> Reader<'r, 'a> {
 
     fn command(&self) -> Result<Command, AllocError>
         requires { self.now.own_name.now ≡ own_name_of BlockKind.Command self.now.lines.now }
-        ensures { IfOk result (λ command. command ≡ command_of self.now.lines.now) }
+        ensures { IfOk result (λ command. command ≡ Spec.command_of self.now.lines.now) }
     {
         Ok(Command {
             command_name: self.own_name.0.clone()?,
@@ -345,7 +343,7 @@ impl<'r, 'a> Reader<'r, 'a> {
     /// The objects that a directive names.
     fn ids<T: Id>(&self, reference: Reference) -> Result<Items<T>, ObjectErr>
         ensures ids { IfOk result (λ ids. ids
-            ≡ map T.id_at (places (names_in self.now.directory.now) reference
+            ≡ map T.id_at (Spec.places (names_in self.now.directory.now) reference
             self.now.lines.now)) }
         ensures unknown { MakesUnless result
             (lacks_named (names_in self.now.directory.now) self.now.lines.now reference) }
@@ -357,7 +355,7 @@ impl<'r, 'a> Reader<'r, 'a> {
 /// The number of a directive that is in its range, or 1 in its absence.
 fn number_or_one(least: u32, most: u32, wanted: Directive, lines: &[Line<'_>]) -> u32
     requires { 1 ≤ most }
-    ensures value { result ≡ number_or 1 least most (directive_word wanted) lines.now }
+    ensures value { result ≡ Spec.number_or 1 least most (directive_word wanted) lines.now }
     ensures within { result ≤ most }
 {
     directive(wanted, lines)

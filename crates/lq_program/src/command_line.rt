@@ -1,10 +1,7 @@
 ghost use Rattle.std.specs.Prelude.{◌≡◌, ◌⊎◌, ◌∷◌, ℕ, List, Some, [], map, string_bytes, IfErr};
 ghost use Rattle.std.specs.List.{before_first, after_first};
 ghost use Rattle.std.specs.Option.{option_and_then, option_copied, option_map};
-ghost use Rattle.lq_program.specs.CommandLine.{asked_words, choice_named, given_by, is_equals};
-ghost use Rattle.lq_program.specs.CommandLine.{is_value, line_of, load_of, number_up_to};
-ghost use Rattle.lq_program.specs.CommandLine.{only_operands, rule, strictness_of, wanted_of};
-ghost use Rattle.lq_program.specs.CommandLine.{with_option_and_value, with_operand, with_value};
+ghost use Rattle.lq_program.specs.CommandLine as Spec;
 ghost use Rattle.lq_program.specs.Words.{given_before, given_by_values, given_with, later_line};
 ghost use Rattle.lq_program.specs.Words.{wanted_by, work_by};
 
@@ -73,7 +70,7 @@ struct Values<'a> {
 impl<'a> Values<'a> {
     /// What `ask` asks by them, None where the value of an option isn't one that it takes.
     fn asked_work(self) -> Option<Asked<'a>>
-        ensures { option_map wanted_by result ≡ wanted_of (given_by_values self.entry) }
+        ensures { option_map wanted_by result ≡ Spec.wanted_of (given_by_values self.entry) }
     {
         Some(Asked {
             path: self.operand,
@@ -88,7 +85,7 @@ impl<'a> Values<'a> {
     /// The number of the workload that `load` runs by them, None where it isn't one or an option
     /// stands.
     fn load_number(self) -> Option<u64>
-        ensures { result ≡ load_of (given_by_values self.entry) }
+        ensures { result ≡ Spec.load_of (given_by_values self.entry) }
     {
         if self.log.is_none() && self.service_auth.is_none() && self.group_auth.is_none() {
             load_number(self.operand)
@@ -100,7 +97,7 @@ impl<'a> Values<'a> {
 
 /// The number of a workload, 0 to 1,000,000 in decimal digits.
 fn load_number(digits: &str) -> Option<u64>
-    ensures { result ≡ number_up_to 1000000 digits.now }
+    ensures { result ≡ Spec.number_up_to 1000000 digits.now }
 {
     let number = read_u64(digits.as_bytes())?;
     if number <= MOST_LOAD {
@@ -138,7 +135,7 @@ impl<'a> Said<'a> {
     fn with_any(self, word: &'a str) -> Option<Self>
         requires { self.awaited ≡ Awaited.Any }
         ensures { (words : List (List ℕ)) → option_and_then (λ said. given_with said words) result
-            ≡ given_before self.entry (line_of (word.now ∷ words)) }
+            ≡ given_before self.entry (Spec.line_of (word.now ∷ words)) }
     {
         if word == "--" {
             Some(self.with_awaited(Awaited::Operand))
@@ -163,7 +160,7 @@ impl<'a> Said<'a> {
     fn with_operand(self, word: &'a str) -> Option<Self>
         ensures { (words : List (List ℕ)) → option_and_then (λ said. given_with said words) result
             ≡ given_before self.entry
-            (option_map (with_operand word.now) (later_line self.entry.awaited words)) }
+            (option_map (Spec.with_operand word.now) (later_line self.entry.awaited words)) }
     {
         match self.operand {
             Some(_) => None,
@@ -178,7 +175,7 @@ impl<'a> Said<'a> {
     fn with_option_and_value(self, word: &'a str) -> Option<Self>
         ensures { (words : List (List ℕ)) → option_and_then (λ said. given_with said words) result
             ≡ given_before self.entry
-            (option_and_then (with_option_and_value word.now) (line_of words)) }
+            (option_and_then (Spec.with_option_and_value word.now) (Spec.line_of words)) }
     {
         match choice_named(before_equals(word)) {
             Some(choice) => self.with_value(choice, after_equals(word)),
@@ -189,7 +186,8 @@ impl<'a> Said<'a> {
     /// Each option stands once.
     fn with_value(self, choice: Choice, value: &'a str) -> Option<Self>
         ensures { (words : List (List ℕ)) → option_and_then (λ said. given_with said words) result
-            ≡ given_before self.entry (option_map (with_value choice value.now) (line_of words)) }
+            ≡ given_before self.entry
+            (option_map (Spec.with_value choice value.now) (Spec.line_of words)) }
     {
         let awaited = Awaited::Any;
         match choice {
@@ -224,7 +222,7 @@ impl<'a> Said<'a> {
 
     fn given_by_all(self) -> Option<Values<'a>>
         ensures { option_map given_by_values result
-            ≡ given_before self.entry (Some (only_operands [])) }
+            ≡ given_before self.entry (Some (Spec.only_operands [])) }
     {
         Some(Values {
             operand: self.operand?,
@@ -245,7 +243,7 @@ impl<'a> Said<'a> {
 /// value that begins with `-`, and isn't `-` alone, has to stand after `=` or `--`.
 #[tactic(auto, unfolding(crate::specs::CommandLine::asked_words))]
 pub fn asked_words(words: &[String]) -> Option<Subcommand<'_>>
-    ensures { option_map work_by result ≡ asked_words (map string_bytes words.now) }
+    ensures { option_map work_by result ≡ Spec.asked_words (map string_bytes words.now) }
 {
     let (command, rest) = words.split_first()?;
     match command.as_str() {
@@ -257,7 +255,7 @@ pub fn asked_words(words: &[String]) -> Option<Subcommand<'_>>
 
 /// What the words after the command give.
 fn given_by(words: &[String]) -> Option<Values<'_>>
-    ensures { option_map given_by_values result ≡ given_by (map string_bytes words.now) }
+    ensures { option_map given_by_values result ≡ Spec.given_by (map string_bytes words.now) }
 {
     let nothing = Said {
         operand: None,
@@ -283,14 +281,14 @@ fn said_after<'a>(before: Said<'a>, words: &'a [String]) -> Option<Said<'a>>
 
 /// Whether a word may be a value where it stands by itself and no `--` is before it.
 fn is_value(word: &str) -> bool
-    ensures { result ≡ is_value word.now }
+    ensures { result ≡ Spec.is_value word.now }
 {
     word == "-" || word.as_bytes().first() != Some(&b'-')
 }
 
 /// The option with a name.
 fn choice_named(name: &str) -> Option<Choice>
-    ensures { result ≡ choice_named name.now }
+    ensures { result ≡ Spec.choice_named name.now }
 {
     match name {
         "--log" => Some(Choice::Log),
@@ -302,7 +300,7 @@ fn choice_named(name: &str) -> Option<Choice>
 
 /// What stands before the first `=`, all where there is none.
 fn before_equals(word: &str) -> &str
-    ensures { result.now ≡ before_first is_equals word.now }
+    ensures { result.now ≡ before_first Spec.is_equals word.now }
 {
     match word.split_once('=') {
         Some((name, _)) => name,
@@ -312,7 +310,7 @@ fn before_equals(word: &str) -> &str
 
 /// What stands after the first `=`, nothing where there is none.
 fn after_equals(word: &str) -> &str
-    ensures { result.now ≡ after_first is_equals word.now }
+    ensures { result.now ≡ after_first Spec.is_equals word.now }
 {
     match word.split_once('=') {
         Some((_, value)) => value,
@@ -322,7 +320,7 @@ fn after_equals(word: &str) -> &str
 
 /// Whether a rule is strict, by the value of its option where one is given.
 fn rule(usually: bool, value: Option<&str>) -> Option<bool>
-    ensures { result ≡ rule usually (option_copied value.entry) }
+    ensures { result ≡ Spec.rule usually (option_copied value.entry) }
 {
     match value {
         Some(value) => strictness_of(value),
@@ -332,7 +330,7 @@ fn rule(usually: bool, value: Option<&str>) -> Option<bool>
 
 /// Whether a rule is strict.
 fn strictness_of(word: &str) -> Option<bool>
-    ensures { result ≡ strictness_of word.now }
+    ensures { result ≡ Spec.strictness_of word.now }
 {
     match word {
         "strict" => Some(true),

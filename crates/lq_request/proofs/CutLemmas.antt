@@ -22,18 +22,18 @@ whole_not_more message.Query text is = cc
 whole_not_more message.Command text is = cc
 whole_not_more message.Nothing text is = cc
 
-pub behind_message : (k : MessageKind) (text bytes : List ℕ) → (k ≡ message.Nothing → ⊥) → rest_after (whole k text) bytes ≡ after_message bytes (window_message bytes)
-behind_message message.Query text bytes some = refl
-behind_message message.Command text bytes some = refl
-behind_message message.Nothing text bytes some = absurd (some refl)
+pub rest_of_message : (k : MessageKind) (text bytes : List ℕ) → (k ≡ message.Nothing → ⊥) → rest_after (whole k text) bytes ≡ after_message bytes (window_message bytes)
+rest_of_message message.Query text bytes some = refl
+rest_of_message message.Command text bytes some = refl
+rest_of_message message.Nothing text bytes some = absurd (some refl)
 
-pub behind_ended : (bytes : List ℕ) (first : Message) → first.ended ≡ true → after_message bytes first ≡ drop first.size bytes
-behind_ended bytes first is = rw is refl
+pub after_ended : (bytes : List ℕ) (first : Message) → first.ended ≡ true → after_message bytes first ≡ drop first.size bytes
+after_ended bytes first is = rw is refl
 
-pub behind_last : (k : MessageKind) (text bytes : List ℕ) → (window_message bytes).ended ≡ false → rest_after (whole k text) bytes ≡ []
-behind_last message.Query text bytes is = rw is refl
-behind_last message.Command text bytes is = rw is refl
-behind_last message.Nothing text bytes is = refl
+pub after_last : (k : MessageKind) (text bytes : List ℕ) → (window_message bytes).ended ≡ false → rest_after (whole k text) bytes ≡ []
+after_last message.Query text bytes is = rw is refl
+after_last message.Command text bytes is = rw is refl
+after_last message.Nothing text bytes is = refl
 
 drop_all : (bytes : List ℕ) → drop (length bytes) bytes ≡ []
 drop_all bytes = grind (arith, common_steps)
@@ -85,7 +85,7 @@ module _ (ended : Bool) (bytes : List ℕ) (extent : Extent) (is : IsExtent (tak
       let some : extent.kind ≡ message.Nothing → ⊥ = λ none. message_kind (take message_limit bytes) has (is.kind ∙ none) in
       record {
         next = next_message (piece_ended ended bytes (window_message bytes) has) (first_ended ended bytes has (omega (arith, is.size, is.within, window_length)));
-        rest = behind_message extent.kind _ bytes some ∙ behind_ended bytes (window_message bytes) has ∙ ap (λ n. drop n bytes) is.size;
+        rest = rest_of_message extent.kind _ bytes some ∙ after_ended bytes (window_message bytes) has ∙ ap (λ n. drop n bytes) is.size;
         within = (is.order, is.next, omega (arith, is.within, window_length));
       }
 
@@ -119,16 +119,16 @@ module _ (ended : Bool) (bytes : List ℕ) (extent : Extent) (is : IsExtent (tak
       let piece : first_piece ended bytes ≡ message_piece = piece_last ended bytes (window_message bytes) (not_ended high) short closed in
       record {
         next = next_message piece (last_of message_piece high short closed piece);
-        rest = behind_last extent.kind _ bytes (not_ended high) ∙ sym (drop_all bytes);
+        rest = after_last extent.kind _ bytes (not_ended high) ∙ sym (drop_all bytes);
         within = (is.order, omega (arith, is.next, is.within, window_length), omega arith);
       }
 
 -- ---- the buffer
 
 -- what is held after n bytes
-pub held_behind : (buffer : List ℕ) (start end n : ℕ) → n ≤ length (take (end - start) (drop start buffer))
+pub held_after : (buffer : List ℕ) (start end n : ℕ) → n ≤ length (take (end - start) (drop start buffer))
     → take (end - (start + n)) (drop (start + n) buffer) ≡ drop n (take (end - start) (drop start buffer))
-held_behind buffer start end n low =
+held_after buffer start end n low =
     let small : n ≤ end - start = omega (arith, length-take (end - start) (drop start buffer), low) in
     let whole : n + (end - (start + n)) ≡ end - start = omega arith in
     ap (take (end - (start + n))) (sym (drop-drop n start buffer)) ∙ sym (drop-take n (end - (start + n)) (drop start buffer))
@@ -177,11 +177,11 @@ module _ (ended : Bool) (buffer : List ℕ) (start end : ℕ) (held now : List �
   pub next_of : (place : Found) → Shows ended held place → IsNext ended now (found_piece now place)
   next_of place shows = subst (λ bytes. IsNext ended bytes (found_piece bytes place)) (inside ∙ view) shows.next
 
-  pub behind_of : (place : Found) (taken : ℕ) → taken ≡ taken_by place → Shows ended held place
+  pub after_of : (place : Found) (taken : ℕ) → taken ≡ taken_by place → Shows ended held place
       → take (end - (start + taken)) (drop (start + taken) buffer) ≡ rest_after (found_piece now place) now
-  behind_of place taken is shows =
+  after_of place taken is shows =
       let small : taken_by place ≤ length (take (end - start) (drop start buffer)) = subst (λ bytes. taken_by place ≤ length bytes) inside (taken_within held place shows.within) in
-      ap (λ n. take (end - (start + n)) (drop (start + n) buffer)) is ∙ held_behind buffer start end (taken_by place) small
+      ap (λ n. take (end - (start + n)) (drop (start + n) buffer)) is ∙ held_after buffer start end (taken_by place) small
       ∙ ap (drop (taken_by place)) view ∙ sym (subst (λ bytes. rest_after (found_piece bytes place) bytes ≡ drop (taken_by place) bytes) (inside ∙ view) shows.rest)
 
   -- what is left, and how far it was looked over
@@ -195,7 +195,7 @@ module _ (ended : Bool) (buffer : List ℕ) (start end : ℕ) (held now : List �
   left_known place taken text next seen is within known =
       let small : taken_by place ≤ length (take (end - start) (drop start buffer)) = subst (λ bytes. taken_by place ≤ length bytes) inside (taken_within held place within) in
       subst (IsKnown text next seen)
-      (sym (ap (λ n. take (end - (start + n)) (drop (start + n) buffer)) is ∙ held_behind buffer start end (taken_by place) small ∙ ap (drop (taken_by place)) (sym inside)))
+      (sym (ap (λ n. take (end - (start + n)) (drop (start + n) buffer)) is ∙ held_after buffer start end (taken_by place) small ∙ ap (drop (taken_by place)) (sym inside)))
       known
 
   pub part_of : (items : List ℕ) (from to : ℕ) → items ≡ buffer → from ≤ to → to ≤ length held

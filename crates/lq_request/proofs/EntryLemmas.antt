@@ -18,17 +18,17 @@ one_finished stats more rest left entry last all pushed is taken before =
 
 -- ---- joined entries
 
-behind : (headers stack : List Header) (later : Option (List Header))
+beyond : (headers stack : List Header) (later : Option (List Header))
     → option_map (λ l. (headers ++ stack) ++ l) later ≡ option_map (λ l. headers ++ l) (option_map (λ l. stack ++ l) later)
-behind headers stack None = refl
-behind headers stack (Some later) = ap Some (append_assoc headers stack later)
+beyond headers stack None = refl
+beyond headers stack (Some later) = ap Some (append_assoc headers stack later)
 
 -- the headers of an entry that is taken from the front stand after those before it
 pub one_counted : (headers more stack : List Header) (rest left : List StatDraft) (all : Option (List Header))
     → more ≡ headers ++ stack → rest ≡ draft.Count stack ∷ left → option_map (λ l. headers ++ l) (headers_of_counts rest) ≡ all
     → option_map (λ l. more ++ l) (headers_of_counts left) ≡ all
 one_counted headers more stack rest left all appended taken before =
-    ap (λ list. option_map (λ l. list ++ l) (headers_of_counts left)) appended ∙ behind headers stack (headers_of_counts left)
+    ap (λ list. option_map (λ l. list ++ l) (headers_of_counts left)) appended ∙ beyond headers stack (headers_of_counts left)
     ∙ ap (λ list. option_map (λ l. headers ++ l) (headers_of_counts list)) (sym taken) ∙ before
 
 last_first : (headers : List Header) (last : Header) → height (headers ++ last ∷ []) ≡ tree_count (last ∷ reverse headers)

@@ -64,10 +64,10 @@ front_stable kind (suc n) bytes more small has =
     let passing : is_line_of kind line ≡ true → front_lines kind (bytes ++ more) ≡ front_lines kind bytes = λ pass.
     let first : front_lines kind bytes ≡ line ++ front_lines kind rest = short ∙ passes_first kind line (whole_lines rest) pass in
     let size : length (front_lines kind bytes) ≡ feed + 1 + length (front_lines kind rest) = ap length first ∙ length-append line (front_lines kind rest) ∙ ap (λ n. n + length (front_lines kind rest)) line_length in
-    let behind : drop (length (front_lines kind bytes)) bytes ≡ drop (length (front_lines kind rest)) rest = ap (λ k. drop k bytes) size ∙ sym (drop-drop (length (front_lines kind rest)) (feed + 1) bytes) in
+    let beyond : drop (length (front_lines kind bytes)) bytes ≡ drop (length (front_lines kind rest)) rest = ap (λ k. drop k bytes) size ∙ sym (drop-drop (length (front_lines kind rest)) (feed + 1) bytes) in
     let less : length rest ≤ n = omega (arith, length-drop (feed + 1) bytes) in
     long ∙ passes_first kind line (whole_lines (rest ++ more)) pass
-    ∙ ap (λ front. line ++ front) (front_stable kind n rest more less (subst HasFeed behind has)) ∙ sym first in
+    ∙ ap (λ front. line ++ front) (front_stable kind n rest more less (subst HasFeed beyond has)) ∙ sym first in
     let failing : is_line_of kind line ≡ false → front_lines kind (bytes ++ more) ≡ front_lines kind bytes = λ fail.
     long ∙ fails_first kind line (whole_lines (rest ++ more)) fail ∙ sym (short ∙ fails_first kind line (whole_lines rest) fail) in
     ⊎_elim passing failing (cases_Bool (is_line_of kind line))
@@ -162,9 +162,9 @@ query_stable before bytes more within ended =
     let text : List ℕ = front_lines kind.Text (drop before bytes) in
     let own : HasFeed (drop (length text) (drop before bytes)) = query_feed before text bytes ended in
     let closing : HasFeed (drop (before + length text) bytes) = subst HasFeed (drop-drop (length text) before bytes) own in
-    let behind : drop before (bytes ++ more) ≡ drop before bytes ++ more = drop-append-le before bytes more within in
+    let beyond : drop before (bytes ++ more) ≡ drop before bytes ++ more = drop-append-le before bytes more within in
     let texts : front_lines kind.Text (drop before (bytes ++ more)) ≡ text =
-    ap (front_lines kind.Text) behind ∙ front_stable kind.Text (length (drop before bytes)) (drop before bytes) more (omega arith) own in
+    ap (front_lines kind.Text) beyond ∙ front_stable kind.Text (length (drop before bytes)) (drop before bytes) more (omega arith) own in
     let last : one_empty_line (drop (before + length text) (bytes ++ more)) ≡ one_empty_line (drop (before + length text) bytes) =
     ap one_empty_line (drop-append-le (before + length text) bytes more (within_of _ bytes closing)) ∙ one_stable _ more closing in
     ap (λ own. query_from before own (bytes ++ more)) texts ∙ query_from_same before text bytes (bytes ++ more) last

@@ -10,7 +10,7 @@ use Rattle.lq_request.specs.declared.extent.MessageKind.TheVariants as message
 use Rattle.lq_request.proofs.ListLemmas.{front_more}
 use Rattle.lq_request.proofs.MessageLemmas.{message_kind, message_none, message_size, message_stable}
 use Rattle.lq_request.proofs.PieceLemmas.{window_message, needed_ended, piece_ended, piece_last, piece_long, piece_more}
-use Rattle.lq_request.proofs.CutLemmas.{behind_ended, behind_last, behind_message}
+use Rattle.lq_request.proofs.CutLemmas.{after_ended, after_last, rest_of_message}
 
 -- ---- whole messages
 
@@ -54,14 +54,14 @@ ended_piece ended bytes is = piece_ended ended bytes (window_message bytes) is
 ended_rest : (bytes : List ℕ) → (window_message bytes).ended ≡ true
     → rest_after (whole (window_message bytes).kind (window_message bytes).text) bytes ≡ drop (window_message bytes).size bytes
 ended_rest bytes is =
-    behind_message (window_message bytes).kind (window_message bytes).text bytes (message_kind (take message_limit bytes) is) ∙ behind_ended bytes (window_message bytes) is
+    rest_of_message (window_message bytes).kind (window_message bytes).text bytes (message_kind (take message_limit bytes) is) ∙ after_ended bytes (window_message bytes) is
 
 last_rest : (ended : Bool) (bytes : List ℕ) → (window_message bytes).ended ≡ false → IsMessage (first_piece ended bytes) → rest_after (first_piece ended bytes) bytes ≡ []
 unfolding first_piece
 last_rest ended bytes open' is =
     let last = piece_cases ended bytes (window_message bytes) is open' in
     ap (λ p. rest_after p bytes) (piece_last ended bytes (window_message bytes) open' last.1 last.0)
-    ∙ behind_last (window_message bytes).kind (window_message bytes).text bytes open'
+    ∙ after_last (window_message bytes).kind (window_message bytes).text bytes open'
 
 -- a message takes a byte at least
 less : (ended : Bool) (bytes : List ℕ) → IsMessage (first_piece ended bytes) → length (rest_after (first_piece ended bytes) bytes) < length bytes
@@ -141,10 +141,10 @@ ended_first : (closed : Bool) (bytes more : List ℕ) → (window_message bytes)
 ended_first closed bytes more is =
     ended_piece closed (bytes ++ more) (ap (λ m. m.ended) (same_window bytes more is) ∙ is) ∙ ap (λ m. whole m.kind m.text) (same_window bytes more is)
 
-ended_behind : (bytes more : List ℕ) → (window_message bytes).ended ≡ true → (window_message bytes).size ≤ length bytes
+ended_after : (bytes more : List ℕ) → (window_message bytes).ended ≡ true → (window_message bytes).size ≤ length bytes
     → rest_after (whole (window_message bytes).kind (window_message bytes).text) (bytes ++ more)
     ≡ rest_after (whole (window_message bytes).kind (window_message bytes).text) bytes ++ more
-ended_behind bytes more is small =
+ended_after bytes more is small =
     ap (λ m. rest_after (whole m.kind m.text) (bytes ++ more)) (sym (same_window bytes more is))
     ∙ ended_rest (bytes ++ more) (ap (λ m. m.ended) (same_window bytes more is) ∙ is)
     ∙ ap (λ m. drop m.size (bytes ++ more)) (same_window bytes more is)
@@ -169,7 +169,7 @@ cut_off ended held piece some is first =
     let found : (closed : Bool) (more : List ℕ) → messages_up_to closed (length (held ++ more)) (held ++ more)
     ≡ piece ∷ messages_up_to closed (length (rest_after piece held ++ more)) (rest_after piece held ++ more) =
     λ closed more. first_message closed piece (held ++ more) (rest_after piece held ++ more) some (ended_first closed held more has ∙ sym same)
-    (subst (λ p. rest_after p (held ++ more) ≡ rest_after p held ++ more) (sym same) (ended_behind held more has small)) in
+    (subst (λ p. rest_after p (held ++ more) ≡ rest_after p held ++ more) (sym same) (ended_after held more has small)) in
     record { all = λ more _. found true more; known = λ more _. found false more; fewer = fewer })
     (λ (open' : (window_message held).ended ≡ false).
     let closed : ended ≡ true = piece_closed ended held own open' in

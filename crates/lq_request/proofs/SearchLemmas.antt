@@ -30,8 +30,8 @@ lines_append kind lines more first second rest =
     ∙ sym (append_assoc lines more (front_lines kind rest))
 
 -- lines at the front, and those after them
-pub front_behind : (kind : LineKind) (bytes : List ℕ) (n : ℕ) → AreLines kind (take n bytes) → front_lines kind bytes ≡ take n bytes ++ front_lines kind (drop n bytes)
-front_behind kind bytes n lines = ap (front_lines kind) (sym (take-append-drop n bytes)) ∙ lines (drop n bytes)
+pub front_after : (kind : LineKind) (bytes : List ℕ) (n : ℕ) → AreLines kind (take n bytes) → front_lines kind bytes ≡ take n bytes ++ front_lines kind (drop n bytes)
+front_after kind bytes n lines = ap (front_lines kind) (sym (take-append-drop n bytes)) ∙ lines (drop n bytes)
 
 -- bytes up to their first line feed are one line, whatever follows
 line_to_feed : (bytes rest : List ℕ) → HasFeed bytes
@@ -125,19 +125,19 @@ lines_next kind bytes at end next is fed pass lines =
 pub all_lines : (kind : LineKind) (bytes : List ℕ) (at : ℕ) → at ≡ length bytes → AreLines kind (take at bytes) → front_lines kind bytes ≡ take at bytes
 all_lines kind bytes at end lines =
     let none : drop at bytes ≡ [] = grind (arith, common_steps) in
-    front_behind kind bytes at lines ∙ ap (λ rest. take at bytes ++ front_lines kind rest) none ∙ append-nil (take at bytes)
+    front_after kind bytes at lines ∙ ap (λ rest. take at bytes ++ front_lines kind rest) none ∙ append-nil (take at bytes)
 
 pub lines_stop : (kind : LineKind) (bytes : List ℕ) (at end next : ℕ) → IsLineAt bytes at end next → is_line_of kind (take (next - at) (drop at bytes)) ≡ false
     → AreLines kind (take at bytes) → front_lines kind bytes ≡ take at bytes
 lines_stop kind bytes at end next is fail lines =
-    front_behind kind bytes at lines ∙ ap (λ rest. take at bytes ++ rest) (front_stop kind bytes at end next is fail) ∙ append-nil (take at bytes)
+    front_after kind bytes at lines ∙ ap (λ rest. take at bytes ++ rest) (front_stop kind bytes at end next is fail) ∙ append-nil (take at bytes)
 
 -- a last line of the kind, without its line feed
 pub lines_last : (kind : LineKind) (bytes : List ℕ) (at end next : ℕ) → IsLineAt bytes at end next → end ≡ next → is_line_of kind (take (next - at) (drop at bytes)) ≡ true
     → AreLines kind (take at bytes) → front_lines kind bytes ≡ take next bytes
 lines_last kind bytes at end next is same pass lines =
     let none : drop next bytes ≡ [] = let last = last_line bytes at end next is same in grind (arith, common_steps) in
-    front_behind kind bytes at lines ∙ front_next kind bytes at end next is pass ∙ ap (λ rest. take next bytes ++ front_lines kind rest) none ∙ append-nil (take next bytes)
+    front_after kind bytes at lines ∙ front_next kind bytes at end next is pass ∙ ap (λ rest. take next bytes ++ front_lines kind rest) none ∙ append-nil (take next bytes)
 
 -- no empty line lacks its line feed
 pub last_has_text : (lines : LineKind) (bytes : List ℕ) (at end next : ℕ) → IsLineAt bytes at end next → end ≡ next → is_line_of lines (take (next - at) (drop at bytes)) ≡ true → lines ≡ kind.Empty → ⊥
@@ -154,7 +154,7 @@ empty_lines_on bytes n m within lines more =
 pub empty_front_on : (bytes : List ℕ) (n m : ℕ) → AreLines kind.Empty (take n bytes) → front_lines kind.Empty (drop n bytes) ≡ take m (drop n bytes) → front_lines kind.Empty bytes ≡ take (n + m) bytes
 empty_front_on bytes n m lines more =
     let size : n + m - n ≡ m = omega arith in
-    front_behind kind.Empty bytes n lines ∙ ap (λ rest. take n bytes ++ rest) more
+    front_after kind.Empty bytes n lines ∙ ap (λ rest. take n bytes ++ rest) more
     ∙ sym (take_parts bytes n (n + m) (omega arith) ∙ ap (λ k. take n bytes ++ take k (drop n bytes)) size)
 
 -- ---- going on
@@ -210,11 +210,11 @@ searched_of_window text next n bytes is =
 pub searched_more : (text next n : ℕ) (bytes : List ℕ) → IsSearched text next bytes → text < next → next + n ≤ length bytes → AreLines kind.Text (take n (drop next bytes)) → IsSearched text (next + n) bytes
 searched_more text next n bytes is some within more =
     let lines : List ℕ = take (next - text) (drop text bytes) in
-    let behind : drop (next - text) (drop text bytes) ≡ drop next bytes = drop-drop (next - text) text bytes ∙ ap (λ k. drop k bytes) (omega (arith, is.order)) in
+    let beyond : drop (next - text) (drop text bytes) ≡ drop next bytes = drop-drop (next - text) text bytes ∙ ap (λ k. drop k bytes) (omega (arith, is.order)) in
     let size : next + n - text - (next - text) ≡ n = omega (arith, is.order) in
     let own : take (next + n - text) (drop text bytes) ≡ lines ++ take n (drop next bytes) =
     take_parts (drop text bytes) (next - text) (next + n - text) (omega (arith, is.order))
-    ∙ ap (λ k. lines ++ take k (drop (next - text) (drop text bytes))) size ∙ ap (λ b. lines ++ take n b) behind in
+    ∙ ap (λ k. lines ++ take k (drop (next - text) (drop text bytes))) size ∙ ap (λ b. lines ++ take n b) beyond in
     record {
       order = omega (arith, is.order);
       within = within;
@@ -236,7 +236,7 @@ text_after_second : (bytes : List ℕ) (at end next : ℕ) → IsLineAt bytes at
 text_after_second bytes at end next is lines front =
     let line : List ℕ = take (next - at) (drop at bytes) in
     let none : length (front_lines kind.Empty (drop at bytes)) ≡ 0 =
-    omega (arith, ap length front, ap length (front_behind kind.Empty bytes at lines), length-append (take at bytes) (front_lines kind.Empty (drop at bytes))) in
+    omega (arith, ap length front, ap length (front_after kind.Empty bytes at lines), length-append (take at bytes) (front_lines kind.Empty (drop at bytes))) in
     ⊎_elim
     (λ (empty : is_line_of kind.Empty line ≡ true).
     let first = ap (λ l. length (concat (take_while (is_line_of kind.Empty) l))) is.whole ∙ ap length (passes_first kind.Empty line (whole_lines (drop next bytes)) empty) in
@@ -277,7 +277,7 @@ searched_message text next bytes is some =
     let known = query_lines (whole_lines (lines ++ rest)) (is.query some rest) size in
     let none : front_lines kind.Empty (drop text bytes) ≡ [] = ap (front_lines kind.Empty) (sym parts) ∙ known.0 in
     let empty : front_lines kind.Empty bytes ≡ take text bytes =
-    front_behind kind.Empty bytes text is.empty ∙ ap (λ later. take text bytes ++ later) none ∙ append-nil (take text bytes) in
+    front_after kind.Empty bytes text is.empty ∙ ap (λ later. take text bytes ++ later) none ∙ append-nil (take text bytes) in
     let before : length (front_lines kind.Empty bytes) ≡ text = ap length empty ∙ omega (arith, length-take text bytes, is.order, is.within) in
     ap (λ n. message_at n (whole_lines (drop n bytes)) bytes) before ∙ ap (λ b. message_at text (whole_lines b) bytes) (sym parts) ∙ known.1 text bytes
 
@@ -286,11 +286,11 @@ pub searched_text : (text next n : ℕ) (bytes : List ℕ) → IsSearched text n
     → front_lines kind.Text (drop text bytes) ≡ take (next + n - text) (drop text bytes)
 searched_text text next n bytes is front =
     let lines : List ℕ = take (next - text) (drop text bytes) in
-    let behind : drop (next - text) (drop text bytes) ≡ drop next bytes = drop-drop (next - text) text bytes ∙ ap (λ k. drop k bytes) (omega (arith, is.order)) in
+    let beyond : drop (next - text) (drop text bytes) ≡ drop next bytes = drop-drop (next - text) text bytes ∙ ap (λ k. drop k bytes) (omega (arith, is.order)) in
     let size : next + n - text - (next - text) ≡ n = omega (arith, is.order) in
-    front_behind kind.Text (drop text bytes) (next - text) is.lines ∙ ap (λ b. lines ++ front_lines kind.Text b) behind ∙ ap (λ later. lines ++ later) front
+    front_after kind.Text (drop text bytes) (next - text) is.lines ∙ ap (λ b. lines ++ front_lines kind.Text b) beyond ∙ ap (λ later. lines ++ later) front
     ∙ sym (take_parts (drop text bytes) (next - text) (next + n - text) (omega (arith, is.order))
-    ∙ ap (λ k. lines ++ take k (drop (next - text) (drop text bytes))) size ∙ ap (λ b. lines ++ take n b) behind)
+    ∙ ap (λ k. lines ++ take k (drop (next - text) (drop text bytes))) size ∙ ap (λ b. lines ++ take n b) beyond)
 
 -- a query of one line, which lacks its line feed
 pub last_query : (bytes : List ℕ) (start end next : ℕ) → front_lines kind.Empty bytes ≡ take start bytes → AreLines kind.Empty (take start bytes) → IsLineAt bytes start end next → end ≡ next
@@ -343,8 +343,8 @@ searched_query text next all closing bytes is some within front last low =
 
 -- ---- without a line feed
 
-index_behind : (n k : ℕ) (bytes : List ℕ) → slice_index (drop n bytes) k ≡ slice_index bytes (n + k)
-index_behind n k bytes = grind (arith, common_steps)
+index_after : (n k : ℕ) (bytes : List ℕ) → slice_index (drop n bytes) k ≡ slice_index bytes (n + k)
+index_after n k bytes = grind (arith, common_steps)
 
 -- where none stands after what was looked over, no message has ended
 pub unfed_message : (text next : ℕ) (bytes : List ℕ) → IsSearched text next bytes → ((k : ℕ) → next ≤ k → k < length bytes → slice_index bytes k ≡ 10 → ⊥) → (message_of bytes).ended ≡ false
@@ -353,9 +353,9 @@ unfed_message text next bytes is none =
     let no_feed : (n : ℕ) → next ≤ n → HasFeed (drop n bytes) → ⊥ = λ n low has.
     let place : feed_place (drop n bytes) < length (drop n bytes) = has.within in
     let here : slice_index (drop n bytes) (feed_place (drop n bytes)) ≡ 10 = eqb-true _ _ (passes_at_first (λ byte. byte == 10) (drop n bytes) 0 place) in
-    none (n + feed_place (drop n bytes)) (omega (arith, low)) (omega (arith, place, length-drop n bytes)) (sym (index_behind n _ bytes) ∙ here) in
+    none (n + feed_place (drop n bytes)) (omega (arith, low)) (omega (arith, place, length-drop n bytes)) (sym (index_after n _ bytes) ∙ here) in
     let empty : ℕ = length (front_lines kind.Empty bytes) in
-    let before : text ≤ empty = omega (arith, ap length (front_behind kind.Empty bytes text is.empty), length-append (take text bytes) (front_lines kind.Empty (drop text bytes)), length-take text bytes, is.order, is.within) in
+    let before : text ≤ empty = omega (arith, ap length (front_after kind.Empty bytes text is.empty), length-append (take text bytes) (front_lines kind.Empty (drop text bytes)), length-take text bytes, is.order, is.within) in
     ⊎_elim
     (λ (ended : (message_of bytes).ended ≡ true). absurd (⊎_elim
     (λ (some : text < next).
@@ -364,7 +364,7 @@ unfed_message text next bytes is none =
     let long : next ≤ text + length own =
     omega (
       arith,
-      ap length (front_behind kind.Text (drop text bytes) (next - text) is.lines),
+      ap length (front_after kind.Text (drop text bytes) (next - text) is.lines),
       length-append (take (next - text) (drop text bytes)) (front_lines kind.Text (drop (next - text) (drop text bytes))),
       length-take (next - text) (drop text bytes),
       length-drop text bytes,
@@ -403,9 +403,9 @@ known_unfed : (text next seen : ℕ) (bytes : List ℕ) → IsKnown text next se
     → (k : ℕ) → next ≤ k → k < length bytes → slice_index bytes k ≡ 10 → ⊥
 known_unfed text next seen bytes is none k low high here = ⊎_elim
     (λ (seen_it : k < seen). is.unfed k low seen_it here)
-    (λ (behind : seen ≤ k).
-    let place : seen + (k - seen) ≡ k = omega (arith, behind) in
-    none (k - seen) (omega (arith, high, behind, length-drop seen bytes)) (index_behind seen (k - seen) bytes ∙ ap (slice_index bytes) place ∙ here))
+    (λ (beyond : seen ≤ k).
+    let place : seen + (k - seen) ≡ k = omega (arith, beyond) in
+    none (k - seen) (omega (arith, high, beyond, length-drop seen bytes)) (index_after seen (k - seen) bytes ∙ ap (slice_index bytes) place ∙ here))
     (cases_lt k seen)
 
 pub known_all : (text next seen : ℕ) (bytes : List ℕ) → IsKnown text next seen bytes → seen ≡ length bytes → (message_of bytes).ended ≡ false

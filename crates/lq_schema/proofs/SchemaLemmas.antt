@@ -25,8 +25,8 @@ in_front front back i x found =
     let read : get_or (front ++ back) i x ≡ x = get_or_append_left front back x i within ∙ get_or_from_slice_get front i x x found in
     slice_get-get_or (front ++ back) i x whole ∙ ap Some read
 
-pub behind_front : {A : Type 0} (front back : List A) (n i : ℕ) (x : A) → n ≡ length front → n ≤ i → slice_get back (i - n) ≡ Some x → slice_get (front ++ back) i ≡ Some x
-behind_front front back n i x is past found =
+pub after_front : {A : Type 0} (front back : List A) (n i : ℕ) (x : A) → n ≡ length front → n ≤ i → slice_get back (i - n) ≡ Some x → slice_get (front ++ back) i ≡ Some x
+after_front front back n i x is past found =
     let within : i - n < length back = slice_get_within back (i - n) x found in
     let whole : i < length (front ++ back) = omega (arith, is, past, within, length-append front back) in
     let place : i ≡ length front + (i - n) = omega (arith, is, past) in
@@ -44,7 +44,7 @@ pub at_block : {A B : Type 0} (front : List B) (f : A → B) (block : List A) (b
 at_block front f block back i first past below =
     let place : ℕ = i - length front in
     let found : slice_get block place ≡ Some (get_or block place first) = slice_get-get_or block place first (omega (arith, past, below)) in
-    behind_front front (map f block ++ back) (length front) i _ refl past (in_front (map f block) back place _ (mapped_at f block place _ found))
+    after_front front (map f block ++ back) (length front) i _ refl past (in_front (map f block) back place _ (mapped_at f block place _ found))
 
 -- ---- the search
 
@@ -92,7 +92,7 @@ pub joined_found : (t : Table) (subject : Subject) (parts : List Part) (n i : �
     → n ≡ length (own_columns subject) → n ≤ i → slice_get (flat_map part_columns parts) (i - n) ≡ Some x → slice_get (columns_of t) i ≡ Some x
 joined_found t subject parts n i x about joins is past found =
     ap (λ list. slice_get list i) (whole t)
-    ∙ behind_front (part_columns (part prefix.Own (subject_of t))) (flat_map part_columns (joined_of t)) n i x
+    ∙ after_front (part_columns (part prefix.Own (subject_of t))) (flat_map part_columns (joined_of t)) n i x
     (is ∙ ap (λ s. length (own_columns s)) about ∙ sym (own_count t)) past
     (subst (λ list. slice_get (flat_map part_columns list) (i - n) ≡ Some x) joins found)
 

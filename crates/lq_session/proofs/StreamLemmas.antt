@@ -88,10 +88,10 @@ one_more_kept : (done : List Piece) (piece : Piece) → list_any is_last done �
 one_more_kept [] piece before kept = rw kept refl
 one_more_kept (first ∷ done) piece before kept = rest_kept (is_last first) (list_any is_last done) (list_any is_last (done ++ piece ∷ [])) before (λ later. one_more_kept done piece later kept)
 
-stands_behind : (s : State) (old left out_old out out_new : Option (List ℕ)) (now next : Counted) (ended : Bool) (held held_new : List ℕ) (room less : ℕ)
+stands_after : (s : State) (old left out_old out out_new : Option (List ℕ)) (now next : Counted) (ended : Bool) (held held_new : List ℕ) (room less : ℕ)
     → Stands s old left out_old out now ended held room → (serves : Serves ended held held_new now next out out_new) → room ≡ less + 1
     → Stands s old left out_old out_new (after_piece now serves.piece) ended held_new less
-stands_behind s old left out_old out out_new now next ended held held_new room less at serves is = record {
+stands_after s old left out_old out out_new now next ended held held_new room less at serves is = record {
   taken = at.taken;
   done = at.done ++ serves.piece ∷ [];
   written = at.written ++ reply_to_piece serves.piece now.state;
@@ -112,7 +112,7 @@ pub stands_next : (s : State) (old left out_old out out_new : Option (List ℕ))
     → Stands s old left out_old out_new next ended held_new less
 stands_next s old left out_old out out_new now next ended held held_new room less at serves is =
     subst (λ after. Stands s old left out_old out_new after ended held_new less) (sym serves.state)
-    (stands_behind s old left out_old out out_new now next ended held held_new room less at serves is)
+    (stands_after s old left out_old out out_new now next ended held held_new room less at serves is)
 
 -- nothing more was written
 stands_still : (s : State) (old left out_old out out_new : Option (List ℕ)) (now : Counted) (ended : Bool) (held : List ℕ) (room : ℕ)
@@ -432,12 +432,12 @@ memory_refused : (s : State) (old left out_old out out_new : Option (List ℕ)) 
 memory_refused s None left out_old out out_new now ended held room start before after at breaks some later = tt
 memory_refused s (Some input) None out_old out out_new now ended held room start before after at breaks some later = absurd at.consumed
 memory_refused s (Some input) (Some rest) out_old out out_new now ended held room start before after at breaks some later =
-    let behind = breaks.first.all rest at.at_end in
+    let beyond = breaks.first.all rest at.at_end in
     record {
       first = at.done;
       next = breaks.piece;
-      later = behind.0;
-      all = ap messages at.consumed ∙ at.all rest at.at_end ∙ ap (λ pieces. at.done ++ pieces) behind.1;
+      later = beyond.0;
+      all = ap messages at.consumed ∙ at.all rest at.at_end ∙ ap (λ pieces. at.done ++ pieces) beyond.1;
       goes_on = not_over at.done room (room - 1) at.count (omega (arith, some)) at.kept;
       between = out;
       served = subst (λ bytes. Appends out_old out bytes) (sym (replies_served s (Some input) (Some rest) out_old out now ended held room at)) at.appended;

@@ -137,8 +137,8 @@ map_append [] ys = refl
 map_append (x ∷ xs) ys = ap (λ list. note_of x ∷ list) (map_append xs ys)
 
 -- a line after others
-pub line_behind : (all lines : List Line) (line : Line) → all ≡ lines ++ line ∷ [] → map note_of all ≡ map note_of lines ++ note_of line ∷ []
-line_behind all lines line is = ap (map note_of) is ∙ map_append lines (line ∷ [])
+pub line_after : (all lines : List Line) (line : Line) → all ≡ lines ++ line ∷ [] → map note_of all ≡ map note_of lines ++ note_of line ∷ []
+line_after all lines line is = ap (map note_of) is ∙ map_append lines (line ∷ [])
 
 pub if_found : {V : Type 0} (items : List V) (at : ℕ) (P : V → Type 0) (d : V) → at < length items → P (get_or items at d) → IfSome (slice_get items at) P
 if_found [] at P d within is = absurd (omega (arith, within))

@@ -45,12 +45,12 @@ in_front (y ∷ front) back zero x found = found
 in_front (y ∷ front) back (suc i) x found = in_front front back i x found
 
 -- a place after a front
-behind : {A : Type 0} (front back : List A) (i : ℕ) → length front ≤ i → slice_get (front ++ back) i ≡ slice_get back (i - length front)
-behind [] back i past = let same : i ≡ i - 0 = omega arith in ap (slice_get back) same
-behind (x ∷ front) back zero past = absurd (omega (arith, past))
-behind (x ∷ front) back (suc i) past =
+beyond : {A : Type 0} (front back : List A) (i : ℕ) → length front ≤ i → slice_get (front ++ back) i ≡ slice_get back (i - length front)
+beyond [] back i past = let same : i ≡ i - 0 = omega arith in ap (slice_get back) same
+beyond (x ∷ front) back zero past = absurd (omega (arith, past))
+beyond (x ∷ front) back (suc i) past =
     let same : i - length front ≡ suc i - length (x ∷ front) = omega arith in
-    behind front back i (omega (arith, past)) ∙ ap (slice_get back) same
+    beyond front back i (omega (arith, past)) ∙ ap (slice_get back) same
 
 pub counted_later : (tables : List Table) (i count n : ℕ) (t : Table) (whole : ℕ)
     → slice_get tables i ≡ Some t → n ≡ length (columns_of t)
@@ -75,5 +75,5 @@ pub found_later : (tables : List Table) (i rest n : ℕ) (t : Table) (whole : Op
 found_later tables i rest n t whole at is past found =
     let counted : length (entries_of t) ≡ n = length-map (columns_of t) (λ column. record { table = t; column = column }) ∙ sym is in
     ap (λ k. slice_get (flat_map entries_of (drop (i + 1) tables)) (rest - k)) (sym counted)
-    ∙ sym (behind (entries_of t) (flat_map entries_of (drop (i + 1) tables)) rest (omega (arith, counted, past)))
+    ∙ sym (beyond (entries_of t) (flat_map entries_of (drop (i + 1) tables)) rest (omega (arith, counted, past)))
     ∙ sym (ap (λ list. slice_get (flat_map entries_of list) rest) (from_place tables i t at)) ∙ found

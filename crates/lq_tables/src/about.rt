@@ -5,11 +5,7 @@ ghost use Rattle.std.specs.List.{slice_get};
 ghost use Rattle.std.specs.Option.{option_and_then, option_copied, option_map};
 ghost use Rattle.lq_columns.specs.Cells.{host_record, service_record};
 ghost use Rattle.lq_records.specs.declared.object.Object.TheVariants as object;
-ghost use Rattle.lq_tables.specs.About.{comment_with, downtime_with, host_of_object, row_command};
-ghost use Rattle.lq_tables.specs.About.{row_comment, row_contact, row_contact_group, row_downtime};
-ghost use Rattle.lq_tables.specs.About.{row_entry, row_host_group_id, row_line, row_object};
-ghost use Rattle.lq_tables.specs.About.{row_period, row_service_group_id, row_slice};
-ghost use Rattle.lq_tables.specs.About.{service_of_object};
+ghost use Rattle.lq_tables.specs.About as Spec;
 
 use crate::history_row::HistoryRow;
 use crate::row::Row;
@@ -27,7 +23,7 @@ use lq_records::{
 
 #[inline(always)]
 pub(crate) fn row_downtime<'a>(live: &'a Live, row: &Row) -> Option<&'a Downtime>
-    ensures { option_copied result ≡ row_downtime live.now.state row.now }
+    ensures { option_copied result ≡ Spec.row_downtime live.now.state row.now }
 {
     match row {
         Row::Downtime(id) => downtime_with(live, *id),
@@ -37,7 +33,7 @@ pub(crate) fn row_downtime<'a>(live: &'a Live, row: &Row) -> Option<&'a Downtime
 
 #[inline(always)]
 pub(crate) fn row_comment<'a>(live: &'a Live, row: &Row) -> Option<&'a Comment>
-    ensures { option_copied result ≡ row_comment live.now.state row.now }
+    ensures { option_copied result ≡ Spec.row_comment live.now.state row.now }
 {
     match row {
         Row::Comment(id) => comment_with(live, *id),
@@ -47,7 +43,7 @@ pub(crate) fn row_comment<'a>(live: &'a Live, row: &Row) -> Option<&'a Comment>
 
 /// The downtime with an id.
 fn downtime_with(live: &Live, id: u64) -> Option<&Downtime>
-    ensures { option_copied result ≡ downtime_with id live.now.state.downtimes }
+    ensures { option_copied result ≡ Spec.downtime_with id live.now.state.downtimes }
 {
     let downtimes = live.downtimes();
     match downtimes.binary_search_by_key(&id, |downtime| downtime.id) {
@@ -58,7 +54,7 @@ fn downtime_with(live: &Live, id: u64) -> Option<&Downtime>
 
 /// The comment with an id.
 fn comment_with(live: &Live, id: u64) -> Option<&Comment>
-    ensures { option_copied result ≡ comment_with id live.now.state.comments }
+    ensures { option_copied result ≡ Spec.comment_with id live.now.state.comments }
 {
     let comments = live.comments();
     match comments.binary_search_by_key(&id, |comment| comment.id) {
@@ -71,7 +67,7 @@ fn comment_with(live: &Live, id: u64) -> Option<&Comment>
 
 #[inline(always)]
 pub(crate) fn row_line<'a>(live: &'a Live, row: &Row) -> Option<&'a LogEntry>
-    ensures { option_copied result ≡ row_line live.now.state row.now }
+    ensures { option_copied result ≡ Spec.row_line live.now.state row.now }
 {
     match row {
         Row::Line(place) => live.log().entries().get(*place as usize),
@@ -82,7 +78,7 @@ pub(crate) fn row_line<'a>(live: &'a Live, row: &Row) -> Option<&'a LogEntry>
 // ---- slices of histories
 
 pub(crate) fn row_slice(row: &Row) -> Option<&HistoryRow>
-    ensures { option_copied result ≡ row_slice row.now }
+    ensures { option_copied result ≡ Spec.row_slice row.now }
 {
     match row {
         Row::Slice(history) => Some(history.row()),
@@ -96,7 +92,7 @@ pub(crate) fn row_slice(row: &Row) -> Option<&HistoryRow>
 /// its slice of a history.
 #[inline(always)]
 pub(crate) fn row_object(live: &Live, row: &Row) -> Option<Object>
-    ensures { result ≡ row_object live.now.state row.now }
+    ensures { result ≡ Spec.row_object live.now.state row.now }
 {
     match row {
         Row::Host(id) | Row::HostOf(_, id) => Some(Object::Host(*id)),
@@ -124,7 +120,7 @@ pub(crate) fn row_object(live: &Live, row: &Row) -> Option<Object>
 #[inline(always)]
 pub(crate) fn service_of(live: &Live, object: Option<Object>) -> Option<ServiceRow<'_>>
     ensures { option_map service_record result
-        ≡ option_and_then (service_of_object live.now.state) object }
+        ≡ option_and_then (Spec.service_of_object live.now.state) object }
 {
     match object {
         Some(Object::Service(id)) => ServiceRow::at(live, id),
@@ -136,7 +132,7 @@ pub(crate) fn service_of(live: &Live, object: Option<Object>) -> Option<ServiceR
 #[inline(always)]
 pub(crate) fn host_of(live: &Live, object: Option<Object>) -> Option<HostRow<'_>>
     ensures { option_map host_record result
-        ≡ option_and_then (host_of_object live.now.state) object }
+        ≡ option_and_then (Spec.host_of_object live.now.state) object }
 {
     match object {
         Some(Object::Host(id)) => HostRow::at(live, id),
@@ -149,7 +145,8 @@ pub(crate) fn host_of(live: &Live, object: Option<Object>) -> Option<HostRow<'_>
 /// close together, so that nothing waits for the record of the service.
 #[inline(always)]
 fn host_of_service(live: &Live, id: ServiceId) -> Option<HostRow<'_>>
-    ensures { option_map host_record result ≡ host_of_object live.now.state (object.Service id) }
+    ensures { option_map host_record result
+        ≡ Spec.host_of_object live.now.state (object.Service id) }
 {
     // Tells the proof that each service has a status.
     let _ = live.service_statuses();
@@ -163,7 +160,7 @@ fn host_of_service(live: &Live, id: ServiceId) -> Option<HostRow<'_>>
 // ---- groups
 
 pub(crate) fn row_host_group_id(row: &Row) -> Option<HostGroupId>
-    ensures { result ≡ row_host_group_id row.now }
+    ensures { result ≡ Spec.row_host_group_id row.now }
 {
     match row {
         Row::HostGroup(id) | Row::HostOf(id, _) | Row::GroupService(id, _) => Some(*id),
@@ -172,7 +169,7 @@ pub(crate) fn row_host_group_id(row: &Row) -> Option<HostGroupId>
 }
 
 pub(crate) fn row_service_group_id(row: &Row) -> Option<ServiceGroupId>
-    ensures { result ≡ row_service_group_id row.now }
+    ensures { result ≡ Spec.row_service_group_id row.now }
 {
     match row {
         Row::ServiceGroup(id) | Row::ServiceOf(id, _) => Some(*id),
@@ -183,7 +180,7 @@ pub(crate) fn row_service_group_id(row: &Row) -> Option<ServiceGroupId>
 // ---- the rest of the base
 
 pub(crate) fn row_contact<'a>(base: &'a Base, row: &Row) -> Option<&'a Contact>
-    ensures { option_copied result ≡ row_contact base.now row.now }
+    ensures { option_copied result ≡ Spec.row_contact base.now row.now }
 {
     match row {
         Row::Contact(id) => base.contacts.as_slice().get(id.0 as usize),
@@ -192,7 +189,7 @@ pub(crate) fn row_contact<'a>(base: &'a Base, row: &Row) -> Option<&'a Contact>
 }
 
 pub(crate) fn row_contact_group<'a>(base: &'a Base, row: &Row) -> Option<&'a ContactGroup>
-    ensures { option_copied result ≡ row_contact_group base.now row.now }
+    ensures { option_copied result ≡ Spec.row_contact_group base.now row.now }
 {
     match row {
         Row::ContactGroup(id) => base.contact_groups.as_slice().get(id.0 as usize),
@@ -201,7 +198,7 @@ pub(crate) fn row_contact_group<'a>(base: &'a Base, row: &Row) -> Option<&'a Con
 }
 
 pub(crate) fn row_command<'a>(base: &'a Base, row: &Row) -> Option<&'a Command>
-    ensures { option_copied result ≡ row_command base.now row.now }
+    ensures { option_copied result ≡ Spec.row_command base.now row.now }
 {
     match row {
         Row::Command(id) => base.commands.as_slice().get(id.0 as usize),
@@ -210,7 +207,7 @@ pub(crate) fn row_command<'a>(base: &'a Base, row: &Row) -> Option<&'a Command>
 }
 
 pub(crate) fn row_period<'a>(base: &'a Base, row: &Row) -> Option<&'a Period>
-    ensures { option_copied result ≡ row_period base.now row.now }
+    ensures { option_copied result ≡ Spec.row_period base.now row.now }
 {
     match row {
         Row::Period(id) => base.periods.as_slice().get(id.0 as usize),
@@ -221,7 +218,7 @@ pub(crate) fn row_period<'a>(base: &'a Base, row: &Row) -> Option<&'a Period>
 // ---- the schema
 
 pub(crate) fn row_entry(row: &Row) -> Option<Entry>
-    ensures { result ≡ row_entry row.now }
+    ensures { result ≡ Spec.row_entry row.now }
 {
     match row {
         Row::Column(place) => entry_at(*place),

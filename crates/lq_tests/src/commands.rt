@@ -173,7 +173,7 @@ fn is_order(
     is_same
 }
 
-/// Compares what a text says behind the second 1.
+/// Compares what a text says after the second 1.
 fn assert_said<R: Abort + AllocGlobal>(
     rt: &R,
     base: &Base,

@@ -1,9 +1,6 @@
 ghost use Rattle.std.specs.Prelude.{◌≡◌, ◌++◌, ◌<◌, IfOk, OnOk, codes, string_bytes};
 ghost use Rattle.lq_workload.specs.Draws.{after_draws};
-ghost use Rattle.lq_workload.specs.Objects.{contact_block, contacts_text, drawn_service};
-ghost use Rattle.lq_workload.specs.Objects.{further_members, group_block, groups_text, host_block};
-ghost use Rattle.lq_workload.specs.Objects.{host_name, host_services, hosts_text, members};
-ghost use Rattle.lq_workload.specs.Objects.{objects_text, service_block, services_text};
+ghost use Rattle.lq_workload.specs.Objects as Spec;
 
 use crate::generator::Generator;
 use std::alloc::{AllocError, Global};
@@ -24,7 +21,8 @@ const GROUPS: u64 = 10;
 /// The text of an object file.
 #[tactic(auto, using(crate::proofs::Steps::steps), unfolding(crate::specs::Objects::objects_text))]
 pub(crate) fn objects(alloc: Global, generator: &mut Generator) -> Result<String, AllocError>
-    ensures text { IfOk result (λ text. string_bytes text ≡ objects_text generator.old.number) }
+    ensures text { IfOk result
+        (λ text. string_bytes text ≡ Spec.objects_text generator.old.number) }
     ensures drawn { OnOk result (generator.new.number ≡ after_draws 2100 generator.old.number) }
 {
     let mut text = String::new(alloc);
@@ -38,7 +36,7 @@ pub(crate) fn objects(alloc: Global, generator: &mut Generator) -> Result<String
 /// Adds the contacts.
 #[tactic(auto, using(crate::proofs::Steps::steps))]
 fn push_contacts(text: &mut String) -> Result<(), AllocError>
-    ensures { OnOk result (string_bytes text.new ≡ string_bytes text.old ++ contacts_text) }
+    ensures { OnOk result (string_bytes text.new ≡ string_bytes text.old ++ Spec.contacts_text) }
 {
     for contact in 0..CONTACTS {
         push_contact(text, contact)?;
@@ -49,7 +47,7 @@ fn push_contacts(text: &mut String) -> Result<(), AllocError>
 #[tactic(auto, unfolding(crate::specs::Objects::contact_block))]
 fn push_contact(text: &mut String, contact: u64) -> Result<(), AllocError>
     ensures { OnOk result
-        (string_bytes text.new ≡ string_bytes text.old ++ contact_block contact) }
+        (string_bytes text.new ≡ string_bytes text.old ++ Spec.contact_block contact) }
 {
     write!(text, "define contact {{\ncontact_name c{contact}\n}}\n")
 }
@@ -58,7 +56,7 @@ fn push_contact(text: &mut String, contact: u64) -> Result<(), AllocError>
 #[tactic(auto, using(crate::proofs::Steps::steps))]
 fn push_hosts(text: &mut String, generator: &mut Generator) -> Result<(), AllocError>
     ensures text { OnOk result
-        (string_bytes text.new ≡ string_bytes text.old ++ hosts_text generator.old.number) }
+        (string_bytes text.new ≡ string_bytes text.old ++ Spec.hosts_text generator.old.number) }
     ensures drawn { OnOk result (generator.new.number ≡ after_draws 100 generator.old.number) }
 {
     for host in 0..HOSTS {
@@ -70,7 +68,7 @@ fn push_hosts(text: &mut String, generator: &mut Generator) -> Result<(), AllocE
 #[tactic(auto, unfolding(crate::specs::Objects::host_block))]
 fn push_host(text: &mut String, host: u64, contact: u64) -> Result<(), AllocError>
     ensures { OnOk result
-        (string_bytes text.new ≡ string_bytes text.old ++ host_block host contact) }
+        (string_bytes text.new ≡ string_bytes text.old ++ Spec.host_block host contact) }
 {
     write!(
         text,
@@ -83,7 +81,7 @@ fn push_host(text: &mut String, host: u64, contact: u64) -> Result<(), AllocErro
 #[tactic(auto, using(crate::proofs::Steps::steps))]
 fn push_services(text: &mut String, generator: &mut Generator) -> Result<(), AllocError>
     ensures text { OnOk result
-        (string_bytes text.new ≡ string_bytes text.old ++ services_text generator.old.number) }
+        (string_bytes text.new ≡ string_bytes text.old ++ Spec.services_text generator.old.number) }
     ensures drawn { OnOk result (generator.new.number ≡ after_draws 2000 generator.old.number) }
 {
     for host in 0..HOSTS {
@@ -100,7 +98,7 @@ fn push_host_services(
     host: u64,
 ) -> Result<(), AllocError>
     ensures text { OnOk result (string_bytes text.new
-        ≡ string_bytes text.old ++ host_services host generator.old.number) }
+        ≡ string_bytes text.old ++ Spec.host_services host generator.old.number) }
     ensures drawn { OnOk result (generator.new.number ≡ after_draws 20 generator.old.number) }
 {
     for service in 0..SERVICES {
@@ -118,7 +116,7 @@ fn push_drawn_service(
     service: u64,
 ) -> Result<(), AllocError>
     ensures text { OnOk result (string_bytes text.new
-        ≡ string_bytes text.old ++ drawn_service host service generator.old.number) }
+        ≡ string_bytes text.old ++ Spec.drawn_service host service generator.old.number) }
     ensures drawn { OnOk result (generator.new.number ≡ after_draws 2 generator.old.number) }
 {
     let attempts = generator.draw(3) + 1;
@@ -134,7 +132,7 @@ fn push_service(
     contact: u64,
 ) -> Result<(), AllocError>
     ensures { OnOk result (string_bytes text.new
-        ≡ string_bytes text.old ++ service_block host service attempts contact) }
+        ≡ string_bytes text.old ++ Spec.service_block host service attempts contact) }
 {
     write!(
         text,
@@ -146,7 +144,7 @@ fn push_service(
 /// Adds the groups of hosts.
 #[tactic(auto, using(crate::proofs::Steps::steps))]
 fn push_groups(text: &mut String, alloc: Global) -> Result<(), AllocError>
-    ensures { OnOk result (string_bytes text.new ≡ string_bytes text.old ++ groups_text) }
+    ensures { OnOk result (string_bytes text.new ≡ string_bytes text.old ++ Spec.groups_text) }
 {
     for group in 0..GROUPS {
         push_group(text, alloc, group)?;
@@ -157,7 +155,8 @@ fn push_groups(text: &mut String, alloc: Global) -> Result<(), AllocError>
 #[tactic(auto, unfolding(crate::specs::Objects::group_block))]
 fn push_group(text: &mut String, alloc: Global, group: u64) -> Result<(), AllocError>
     requires { group < 10 }
-    ensures { OnOk result (string_bytes text.new ≡ string_bytes text.old ++ group_block group) }
+    ensures { OnOk result
+        (string_bytes text.new ≡ string_bytes text.old ++ Spec.group_block group) }
 {
     let members = members(alloc, group)?;
     write!(
@@ -169,7 +168,7 @@ fn push_group(text: &mut String, alloc: Global, group: u64) -> Result<(), AllocE
 /// The names of the hosts whose last digit is the group's number.
 fn members(alloc: Global, group: u64) -> Result<String, AllocError>
     requires { group < 10 }
-    ensures { IfOk result (λ text. string_bytes text ≡ members group) }
+    ensures { IfOk result (λ text. string_bytes text ≡ Spec.members group) }
 {
     let mut text = format!(in alloc; "h{group}")?;
     push_members(&mut text, group)?;
@@ -180,7 +179,8 @@ fn members(alloc: Global, group: u64) -> Result<String, AllocError>
 #[tactic(auto, using(crate::proofs::Steps::steps))]
 fn push_members(text: &mut String, group: u64) -> Result<(), AllocError>
     requires { group < 10 }
-    ensures { OnOk result (string_bytes text.new ≡ string_bytes text.old ++ further_members group) }
+    ensures { OnOk result
+        (string_bytes text.new ≡ string_bytes text.old ++ Spec.further_members group) }
 {
     for tens in 0..9 {
         push_member(text, (tens + 1) * 10 + group)?;
@@ -191,7 +191,7 @@ fn push_members(text: &mut String, group: u64) -> Result<(), AllocError>
 /// Adds a further name.
 fn push_member(text: &mut String, host: u64) -> Result<(), AllocError>
     ensures { OnOk result
-        (string_bytes text.new ≡ string_bytes text.old ++ (codes "," ++ host_name host)) }
+        (string_bytes text.new ≡ string_bytes text.old ++ (codes "," ++ Spec.host_name host)) }
 {
     write!(text, ",h{host}")
 }

@@ -931,7 +931,7 @@ fn a_write_fault_leaves_the_replies_before_it(rt: HostRuntime) -> Result<(), Fai
 }
 
 /// The piece a number of times, and the query after it.
-fn behind_many(alloc: Global, piece: &[u8], count: usize) -> Result<Vec<u8>, AllocError> {
+fn after_many(alloc: Global, piece: &[u8], count: usize) -> Result<Vec<u8>, AllocError> {
     let mut bytes = piece.repeat(alloc, count)?;
     bytes.extend_from_slice(QUERY)?;
     Ok(bytes)
@@ -940,9 +940,9 @@ fn behind_many(alloc: Global, piece: &[u8], count: usize) -> Result<Vec<u8>, All
 #[test]
 fn a_connection_has_10_000_messages_at_most(rt: HostRuntime) -> Result<(), Fail> {
     let alloc = rt.alloc();
-    let most = behind_many(alloc, b"COMMAND [1] X\n", 9_999)?;
+    let most = after_many(alloc, b"COMMAND [1] X\n", 9_999)?;
     assert_run(&rt, &["ask", "f"], &STEADY, &most, (0, ROWS, b""))?;
-    let more = behind_many(alloc, b"COMMAND [1] X\n", 10_000)?;
+    let more = after_many(alloc, b"COMMAND [1] X\n", 10_000)?;
     assert_run(&rt, &["ask", "f"], &STEADY, &more, (0, b"", b""))
 }
 

@@ -1,5 +1,5 @@
 use Rattle.std.proofs.Common.{◌≡◌, refl, sym, ap, ◌∙◌, subst, arith}
-use Rattle.lq_request.proofs.CutLemmas.{left_known, left_within, next_of, behind_of, part_of, front_of}
+use Rattle.lq_request.proofs.CutLemmas.{left_known, left_within, next_of, after_of, part_of, front_of}
 use Rattle.lq_request.proofs.OrderLemmas.{in_order}
 use Rattle.lq_request.specs.Cutting.{found_piece, lent_piece, taken_by}
 use Rattle.lq_request.specs.Messages.{IsNext, More, TooLong, rest_after, whole}
@@ -9,7 +9,7 @@ use Rattle.lq_request.proofs.cut.Cut.next_message.Goals as goal
 pub returns-in-More : goal.returns-in-More
 returns-in-More c =
     let next = next_of c.args.ended c.self.inside.buffer.items c.self.inside.start c.self.inside.end _ _ c.held_bytes.ensures c.self.view_is _ c.in-More.ensures.shows in (
-      (refl, (λ _. tt), behind_of c.args.ended c.self.inside.buffer.items c.self.inside.start c.self.inside.end _ _ c.held_bytes.ensures c.self.view_is _ _ (c.taken_bytes.ensures ∙ ap taken_by c.in-More.is) c.in-More.ensures.shows),
+      (refl, (λ _. tt), after_of c.args.ended c.self.inside.buffer.items c.self.inside.start c.self.inside.end _ _ c.held_bytes.ensures c.self.view_is _ _ (c.taken_bytes.ensures ∙ ap taken_by c.in-More.is) c.in-More.ensures.shows),
       record { next = next; order = in_order c.args.ended c.args.self.now More next; rest = tt },
     )
 
@@ -17,7 +17,7 @@ pub returns-in-TooLong : goal.returns-in-TooLong
 returns-in-TooLong c =
     let part = front_of c.args.ended c.self.inside.buffer.items c.self.inside.start c.self.inside.end _ _ c.held_bytes.ensures c.self.view_is _ 65536 c.deref-in-TooLong.ensures.value c.in-TooLong.ensures.shows.within in
     let next = subst (λ bytes. IsNext c.args.ended c.args.self.now (TooLong bytes)) (sym part) (next_of c.args.ended c.self.inside.buffer.items c.self.inside.start c.self.inside.end _ _ c.held_bytes.ensures c.self.view_is _ c.in-TooLong.ensures.shows) in (
-      (refl, (λ _. tt), behind_of c.args.ended c.self.inside.buffer.items c.self.inside.start c.self.inside.end _ _ c.held_bytes.ensures c.self.view_is _ _ (c.taken_bytes.ensures ∙ ap taken_by c.in-TooLong.is) c.in-TooLong.ensures.shows),
+      (refl, (λ _. tt), after_of c.args.ended c.self.inside.buffer.items c.self.inside.start c.self.inside.end _ _ c.held_bytes.ensures c.self.view_is _ _ (c.taken_bytes.ensures ∙ ap taken_by c.in-TooLong.is) c.in-TooLong.ensures.shows),
       record { next = next; order = in_order c.args.ended c.args.self.now _ next; rest = tt },
     )
 
@@ -30,7 +30,7 @@ returns-in-Message c =
       (
         refl,
         (λ _. tt),
-        behind_of c.args.ended c.self.inside.buffer.items c.self.inside.start c.self.inside.end _ _ c.held_bytes.ensures c.self.view_is _ _ (c.taken_bytes.ensures ∙ ap taken_by c.in-Message.is) c.in-Message.ensures.shows
+        after_of c.args.ended c.self.inside.buffer.items c.self.inside.start c.self.inside.end _ _ c.held_bytes.ensures c.self.view_is _ _ (c.taken_bytes.ensures ∙ ap taken_by c.in-Message.is) c.in-Message.ensures.shows
             ∙ ap (λ p. rest_after p c.args.self.now) (sym piece),
       ),
       record { next = next; order = in_order c.args.ended c.args.self.now (lent_piece c.message.result) next; rest = tt },
